@@ -1,3 +1,5 @@
 pub mod Filled
 pub mod Peeling
 pub mod Agreed
+pub mod Turning
+pub mod Robustness
