@@ -3,3 +3,7 @@ pub mod Peeling
 pub mod Agreed
 pub mod Turning
 pub mod Robustness
+pub mod Arcs
+pub mod Covers
+pub mod Means
+pub mod Bracketing
