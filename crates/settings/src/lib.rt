@@ -1,8 +1,10 @@
 // Settings: a unit and factors that passed every check, and what they tell.
+mod checks;
 mod kept;
 mod making;
 mod positions;
 mod refusals;
+mod tables;
 mod telling;
 
 pub use kept::Setting;
