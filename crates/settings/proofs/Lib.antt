@@ -1,3 +1,4 @@
 pub mod Passed
 pub mod Filled
 pub mod Ranges
+pub mod Placed

@@ -1,1 +1,34 @@
 // Making a setting: the checks in their order.
+ghost use mathlib.Core.List.{[], _∷_};
+ghost use Rattle.settings.specs.Told.{Has, Makes};
+use crate::Setting;
+use crate::SettingRefusal;
+use crate::checks::check_count;
+use crate::checks::check_factors;
+use crate::checks::check_unit;
+use crate::tables::inverses_of;
+use crate::tables::kept;
+use crate::tables::moduli_of;
+use crate::tables::range_from;
+
+impl Setting {
+    /// A setting with this unit and these factors, or the first check that they fail.
+    pub fn new(unit: u32, factors: &[u32]) -> Result<Setting, SettingRefusal>
+        ensures { λ r. ⌜ Makes unit (now (factors .entry)) r ⌝ }
+    {
+        check_count(factors)?;
+        check_unit(unit)?;
+        check_factors(factors)?;
+        let moduli = moduli_of(unit, factors)?;
+        let inverses = inverses_of(factors)?;
+        let range = range_from(unit, factors)?;
+        Ok(Setting { unit, count: factors.len(), factors: kept(factors), moduli, inverses, range })
+    }
+
+    /// The setting that comes before any other: unit 1 with the one factor 2.
+    pub fn first() -> Setting
+        ensures { λ r. ⌜ Has r 1 (2 ∷ []) ⌝ }
+    {
+        Setting { unit: 1, count: 1, factors: [2, 0, 0, 0, 0, 0, 0, 0], moduli: [2, 0, 0, 0, 0, 0, 0, 0], inverses: [[0; 8]; 8], range: 2 }
+    }
+}
