@@ -1,5 +1,5 @@
 // The checks that look at one number at a time.
-ghost use Prim.Native.Nat.{ℕ};
+ghost use Prim.Native.Nat.{ℕ, _^_};
 ghost use lib.ListN.{getD, length};
 ghost use mathlib.Core.Path.{_≡_};
 ghost use Rattle.settings.specs.Refusals.{Fails-first};
@@ -46,6 +46,16 @@ pub(crate) fn check_factors(factors: &[u32]) -> Result<(), SettingRefusal>
 {
     match first_outside(factors, 2, 32768) {
         Some(channel) => Err(SettingRefusal::Factor { channel }),
+        None => Ok(()),
+    }
+}
+
+/// That each modulus is 1 to 2^31.
+pub(crate) fn check_moduli(moduli: &[u32]) -> Result<(), SettingRefusal>
+    ensures { λ r. ⌜ Cases r (λ _. Each-from-to 1 (2 ^ 31) (now (moduli .entry))) (λ e. (k : ℕ) × (e ≡ SettingRefusal.Modulus k) × Fails-first (λ i. From-to 1 (2 ^ 31) (getD (now (moduli .entry)) i 0)) (length (now (moduli .entry))) k) ⌝ }
+{
+    match first_outside(moduli, 1, 1 << 31) {
+        Some(channel) => Err(SettingRefusal::Modulus { channel }),
         None => Ok(()),
     }
 }

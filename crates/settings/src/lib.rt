@@ -4,6 +4,7 @@ mod kept;
 mod making;
 mod positions;
 mod refusals;
+mod splitting;
 mod tables;
 mod telling;
 

@@ -1,11 +1,14 @@
 // Making a setting: the checks in their order.
 ghost use mathlib.Core.List.{[], _∷_};
-ghost use Rattle.settings.specs.Told.{Has, Makes};
+ghost use Rattle.settings.specs.Told.{Has, Makes, Makes-from-moduli};
 use crate::Setting;
 use crate::SettingRefusal;
 use crate::checks::check_count;
 use crate::checks::check_factors;
+use crate::checks::check_moduli;
 use crate::checks::check_unit;
+use crate::splitting::common_divisor;
+use crate::splitting::quotients;
 use crate::tables::inverses_of;
 use crate::tables::kept;
 use crate::tables::moduli_of;
@@ -23,6 +26,18 @@ impl Setting {
         let inverses = inverses_of(factors)?;
         let range = range_from(unit, factors)?;
         Ok(Setting { unit, count: factors.len(), factors: kept(factors), moduli, inverses, range })
+    }
+
+    /// A setting whose channels have these moduli, or the first check that they
+    /// fail: its unit is their greatest common divisor.
+    pub fn from_moduli(moduli: &[u32]) -> Result<Setting, SettingRefusal>
+        ensures { λ r. ⌜ Makes-from-moduli (now (moduli .entry)) r ⌝ }
+    {
+        check_count(moduli)?;
+        check_moduli(moduli)?;
+        let unit = common_divisor(moduli);
+        let factors = quotients(moduli, unit);
+        Setting::new(unit, &factors[0..moduli.len()])
     }
 
     /// The setting that comes before any other: unit 1 with the one factor 2.
