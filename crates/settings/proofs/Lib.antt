@@ -4,3 +4,6 @@ pub mod Ranges
 pub mod Placed
 pub mod Splits
 pub mod Only
+pub mod Chains
+pub mod Laws
+pub mod ModuliLaws

@@ -3,3 +3,4 @@ pub mod Kept
 pub mod Refusals
 pub mod Told
 pub mod Tables
+pub mod SettingLaws

@@ -1,5 +1,6 @@
 // Making a setting: the checks in their order.
 ghost use mathlib.Core.List.{[], _∷_};
+ghost use Rattle.settings.specs.SettingLaws.{Moduli-refused-not-accepted, One-moduli-refusal, One-refusal, Refused-not-accepted};
 ghost use Rattle.settings.specs.Told.{Has, Makes, Makes-from-moduli};
 use crate::Setting;
 use crate::SettingRefusal;
@@ -17,7 +18,9 @@ use crate::tables::range_from;
 impl Setting {
     /// A setting with this unit and these factors, or the first check that they fail.
     pub fn new(unit: u32, factors: &[u32]) -> Result<Setting, SettingRefusal>
-        ensures { λ r. ⌜ Makes unit (now (factors .entry)) r ⌝ }
+        ensures made { λ r. ⌜ Makes unit (now (factors .entry)) r ⌝ }
+        ensures never_both { λ _. ⌜ Refused-not-accepted ⌝ }
+        ensures one_refusal { λ _. ⌜ One-refusal ⌝ }
     {
         check_count(factors)?;
         check_unit(unit)?;
@@ -31,7 +34,9 @@ impl Setting {
     /// A setting whose channels have these moduli, or the first check that they
     /// fail: its unit is their greatest common divisor.
     pub fn from_moduli(moduli: &[u32]) -> Result<Setting, SettingRefusal>
-        ensures { λ r. ⌜ Makes-from-moduli (now (moduli .entry)) r ⌝ }
+        ensures made { λ r. ⌜ Makes-from-moduli (now (moduli .entry)) r ⌝ }
+        ensures never_both { λ _. ⌜ Moduli-refused-not-accepted ⌝ }
+        ensures one_refusal { λ _. ⌜ One-moduli-refusal ⌝ }
     {
         check_count(moduli)?;
         check_moduli(moduli)?;

@@ -4,26 +4,40 @@ use mathlib.Core.List.{List}
 use lib.ListN.{length}
 use Rattle.std.proofs.shelf.Results.{err-from-errBy}
 use Rattle.settings.specs.Settings.{Counted, Each-from-to, Modulus-fits, Range-fits, range-of}
+use borrow.Author.Needs.{needs}
+use Rattle.settings.proofs.Laws.{refused-not-accepted, one-refusal}
 use Rattle.settings.proofs.Placed.{moduli-placed, below-placed, invert-placed, made-coprime}
 use Rattle.settings.proofs.kept.Setting.new.Needs as need
+
+pub returns-in-Break-check-count : need.returns-in-Break-check-count
+returns-in-Break-check-count c = record { never-both = refused-not-accepted; one-refusal = one-refusal; made = search needs }
+
+pub returns-in-Break-check-unit : need.returns-in-Break-check-unit
+returns-in-Break-check-unit c = record { never-both = refused-not-accepted; one-refusal = one-refusal; made = search needs }
+
+pub returns-in-Break-check-factors : need.returns-in-Break-check-factors
+returns-in-Break-check-factors c = record { never-both = refused-not-accepted; one-refusal = one-refusal; made = search needs }
+
+pub returns-in-Break-moduli : need.returns-in-Break-moduli
+returns-in-Break-moduli c = record { never-both = refused-not-accepted; one-refusal = one-refusal; made = search needs }
 
 pub returns-in-Break-inverses : need.returns-in-Break-inverses
 returns-in-Break-inverses c =
     let p = err-from-errBy (c .from-residual-in-Break-inverses .result) (c .from-residual-in-Break-inverses .ensures .1) in
     let (j, k, d, e, shares) = c .in-Break-inverses .ensures tt in
-    rw (p .1, p .2, e)
+    record { never-both = refused-not-accepted; one-refusal = one-refusal; made = rw (p .1, p .2, e)
       (record { counted = c .in-Continue-check-count .ensures tt; unit-fits = c .in-Continue-check-unit .ensures tt;
                 factors-fit = c .in-Continue-check-factors .ensures tt; moduli-fit = c .in-Continue-moduli .ensures tt .fit },
-       shares)
+       shares) }
 
 pub returns-in-Break-range : need.returns-in-Break-range
 returns-in-Break-range c =
     let p = err-from-errBy (c .from-residual-in-Break-range .result) (c .from-residual-in-Break-range .ensures .1) in
     let (k, e, passes) = c .in-Break-range .ensures tt in
-    rw (p .1, p .2, e)
+    record { never-both = refused-not-accepted; one-refusal = one-refusal; made = rw (p .1, p .2, e)
       (record { counted = c .in-Continue-check-count .ensures tt; unit-fits = c .in-Continue-check-unit .ensures tt;
                 factors-fit = c .in-Continue-check-factors .ensures tt; moduli-fit = c .in-Continue-moduli .ensures tt .fit },
-       made-coprime (c .args .factors .now) (c .in-Continue-inverses .inverses) (c .in-Continue-inverses .ensures tt), passes)
+       made-coprime (c .args .factors .now) (c .in-Continue-inverses .inverses) (c .in-Continue-inverses .ensures tt), passes) }
 
 pub ghost-result : need.ghost-result
 ghost-result c =
@@ -46,8 +60,9 @@ ghost-result c =
 
 pub returns : need.returns
 returns c =
+    record { never-both = refused-not-accepted; one-refusal = one-refusal; made =
     (record { counted = c .in-Continue-check-count .ensures tt; unit-fits = c .in-Continue-check-unit .ensures tt;
               factors-fit = c .in-Continue-check-factors .ensures tt; moduli-fit = c .in-Continue-moduli .ensures tt .fit;
               coprime = made-coprime (c .args .factors .now) (c .in-Continue-inverses .inverses) (c .in-Continue-inverses .ensures tt);
               range-fits = c .in-Continue-range .ensures tt .1 },
-     record { unit-is = refl; factors-are = c .kept .ensures })
+     record { unit-is = refl; factors-are = c .kept .ensures }) }
