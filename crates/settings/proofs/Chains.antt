@@ -38,8 +38,11 @@ fails-once (c ∷ cs) e f (inr (p, h)) (inr (q, k)) = fails-once cs e f h k
 -- a check of one thing, with one refusal
 unfoldable pub plain : (P : Type 0) → SettingRefusal → Check
 plain P told = record {
-    Pass = P; Fail = λ e. (e ≡ told) × (P → ⊥);
-    never-both = λ e h p. h .1 p; one = λ e f h k. h .0 ∙ sym (k .0) }
+  Pass = P;
+  Fail = λ e. (e ≡ told) × (P → ⊥);
+  never-both = λ e h p. h .1 p;
+  one = λ e f h k. h .0 ∙ sym (k .0);
+}
 
 -- the lowest of n at which P fails
 pub lowest : (P : ℕ → Type 0) (n k l : ℕ) → Fails-first P n k → Fails-first P n l → k ≡ l
@@ -53,6 +56,8 @@ lowest P n k l (_, before, fails) (_, before′, fails′) = go (decLt k l) (dec
 -- a check over channels, which tells the lowest
 unfoldable pub each : (P : ℕ → Type 0) (n : ℕ) → (ℕ → SettingRefusal) → Check
 each P n told = record {
-    Pass = (k : ℕ) → k < n → P k; Fail = λ e. (k : ℕ) × (e ≡ told k) × Fails-first P n k;
-    never-both = λ e (k, _, h) p. h .2 (p k (h .0));
-    one = λ e f (k, a, h) (l, b, i). a ∙ ap told (lowest P n k l h i) ∙ sym b }
+  Pass = (k : ℕ) → k < n → P k;
+  Fail = λ e. (k : ℕ) × (e ≡ told k) × Fails-first P n k;
+  never-both = λ e (k, _, h) p. h .2 (p k (h .0));
+  one = λ e f (k, a, h) (l, b, i). a ∙ ap told (lowest P n k l h i) ∙ sym b;
+}

@@ -35,10 +35,11 @@ rows-stay table j k x h rows l m = pick (cases-eq l k)
   where
     n : l < length table
     n = omega (arith, length-set table k (set (getD table k []) j x))
+
     pick : (l ≡ k) ⊎ (l ≡ k → ⊥) → length (getD (written table j k x) l []) ≡ 8
     pick (inl e) =
         subst (λ (i : ℕ). length (getD (written table j k x) i []) ≡ 8) (sym e)
-          (ap length (getD-set-same table k (set (getD table k []) j x) [] h) ∙ length-set (getD table k []) j x ∙ rows k h)
+        (ap length (getD-set-same table k (set (getD table k []) j x) [] h) ∙ length-set (getD table k []) j x ∙ rows k h)
     pick (inr o) = ap length (getD-set-other table k l (set (getD table k []) j x) [] o) ∙ rows l n
 
 -- an earlier factor's inverses stay
@@ -49,7 +50,7 @@ earlier-stay gs table j k x h made i l a b m = pick (cases-eq l k)
     pick (inl e) =
         let n : i ≢ j = omega arith in
         let same : inverse-at (written table j k x) i l ≡ inverse-at table i l =
-            subst (λ (r : ℕ). inverse-at (written table j k x) i r ≡ inverse-at table i r) (sym e) (other-place table j k x i h n) in
+        subst (λ (r : ℕ). inverse-at (written table j k x) i r ≡ inverse-at table i r) (sym e) (other-place table j k x i h n) in
         subst (λ (y : ℕ). Inverse (getD gs i 0) (getD gs l 0) y) (sym same) (made i l a b m)
     pick (inr n) = subst (λ (y : ℕ). Inverse (getD gs i 0) (getD gs l 0) y) (sym (other-row table j k x i l n)) (made i l a b m)
 
@@ -67,7 +68,7 @@ column-more gs table j k x h r is column l a b = pick (cases-eq l k)
     pick : (l ≡ k) ⊎ (l ≡ k → ⊥) → Inverse (getD gs j 0) (getD gs l 0) (inverse-at (written table j k x) j l)
     pick (inl e) =
         subst (λ (m : ℕ). Inverse (getD gs j 0) (getD gs m 0) (inverse-at (written table j k x) j m)) (sym e)
-          (subst (λ (y : ℕ). Inverse (getD gs j 0) (getD gs k 0) y) (sym (written-there table j k x h r)) is)
+        (subst (λ (y : ℕ). Inverse (getD gs j 0) (getD gs k 0) y) (sym (written-there table j k x h r)) is)
     pick (inr n) = subst (λ (y : ℕ). Inverse (getD gs j 0) (getD gs l 0) y) (sym (other-row table j k x j l n)) (column l a (omega arith))
 
 -- a whole column more
@@ -83,6 +84,10 @@ made-more gs table j n h made column i l a b m = pick (cases-eq i j)
 pub shares : (gs : List ℕ) (table : List (List ℕ)) (j k d : ℕ) → j < k → k < length gs → Greatest (getD gs j 0) (getD gs k 0) d → (d ≡ 1 → ⊥)
     → Inverses-made gs table j → Column gs table j k → Shares-first gs j k d
 shares gs table j k d a b g n made column = record {
-    in-order = a; within = b; divisor-is = g; shared = n;
-    none-before = λ i l x y z. inverse-coprime (getD gs i 0) (getD gs l 0) (inverse-at table i l) (made i l x y z .gives-one);
-    none-between = λ l x y. inverse-coprime (getD gs j 0) (getD gs l 0) (inverse-at table j l) (column l x y .gives-one) }
+  in-order = a;
+  within = b;
+  divisor-is = g;
+  shared = n;
+  none-before = λ i l x y z. inverse-coprime (getD gs i 0) (getD gs l 0) (inverse-at table i l) (made i l x y z .gives-one);
+  none-between = λ l x y. inverse-coprime (getD gs j 0) (getD gs l 0) (inverse-at table j l) (column l x y .gives-one);
+}

@@ -52,9 +52,11 @@ same-shared gs j k d j′ k′ d′ h i =
 
 unfoldable pairs : List ℕ → Check
 pairs gs = record {
-    Pass = Pairwise-coprime gs; Fail = λ e. (j k d : ℕ) × (e ≡ SharedDivisor j k d) × Shares-first gs j k d;
-    never-both = λ e (j, k, d, _, h) p. not-shared gs j k d h (p j k (h .in-order) (h .within));
-    one = λ e f (j, k, d, a, h) (j′, k′, d′, b, i). a ∙ same-shared gs j k d j′ k′ d′ h i ∙ sym b }
+  Pass = Pairwise-coprime gs;
+  Fail = λ e. (j k d : ℕ) × (e ≡ SharedDivisor j k d) × Shares-first gs j k d;
+  never-both = λ e (j, k, d, _, h) p. not-shared gs j k d h (p j k (h .in-order) (h .within));
+  one = λ e f (j, k, d, a, h) (j′, k′, d′, b, i). a ∙ same-shared gs j k d j′ k′ d′ h i ∙ sym b;
+}
 
 -- more factors give no smaller a range
 abbrev Positive : List ℕ → Type 0
@@ -63,8 +65,8 @@ Positive gs = (k : ℕ) → k < length gs → 0 < getD gs k 0
 range-grows : (u : ℕ) (gs : List ℕ) (i l : ℕ) → Positive gs → i ≤ l → range-of u (take i gs) ≤ range-of u (take l gs)
 range-grows u gs i l positive h =
     let first : Positive (take l gs) = λ k m.
-        let kl : k < l = omega (arith, length-take l gs) in
-        subst (λ (x : ℕ). 0 < x) (sym (getD-take l gs k 0 kl)) (positive k (omega (arith, length-take l gs))) in
+    let kl : k < l = omega (arith, length-take l gs) in
+    subst (λ (x : ℕ). 0 < x) (sym (getD-take l gs k 0 kl)) (positive k (omega (arith, length-take l gs))) in
     mul-le-mul-left u (subst (λ (xs : List ℕ). product xs ≤ product (take l gs)) (take-take i l gs h) (product-le (take l gs) i first))
 
 same-channel : (u : ℕ) (gs : List ℕ) (k l : ℕ) → Positive gs → Passes-first u gs k → Passes-first u gs l → k ≡ l
@@ -77,10 +79,12 @@ same-channel u gs k l positive h i = go (decLt k l) (decLt l k)
 
 unfoldable ranges : (u : ℕ) (gs : List ℕ) → Check
 ranges u gs = record {
-    Pass = Range-fits u gs; Fail = λ e. Positive gs × ((k : ℕ) × (e ≡ Range k) × Passes-first u gs k);
-    never-both = λ e (positive, (k, _, h)) p.
-        omega (arith, range-grows u gs (suc k) (length gs) positive (h .within), ap (range-of u) (take-length gs), h .passes);
-    one = λ e f (positive, (k, a, h)) (_, (l, b, i)). a ∙ ap Range (same-channel u gs k l positive h i) ∙ sym b }
+  Pass = Range-fits u gs;
+  Fail = λ e. Positive gs × ((k : ℕ) × (e ≡ Range k) × Passes-first u gs k);
+  never-both = λ e (positive, (k, _, h)) p.
+      omega (arith, range-grows u gs (suc k) (length gs) positive (h .within), ap (range-of u) (take-length gs), h .passes);
+  one = λ e f (positive, (k, a, h)) (_, (l, b, i)). a ∙ ap Range (same-channel u gs k l positive h i) ∙ sym b;
+}
 
 -- the six checks in a row
 unfoldable checks : (u : ℕ) → List ℕ → List Check

@@ -23,8 +23,8 @@ one-unit ms u v gs hs a b = dvd-antisymm (b .unit-is .greatest u (a .unit-is .co
 one-list : (ms : List ℕ) (u : ℕ) (gs hs : List ℕ) → 0 < u → Split ms u gs → Split ms u hs → gs ≡ hs
 one-list ms u gs hs p a b =
     ext-getD 0 gs hs (a .paired ∙ sym (b .paired)) (λ k h.
-      let l : k < length ms = omega (arith, a .paired) in
-      eq-of-mul-eq-mul-left u p _ _ (a .quotients k l ∙ sym (b .quotients k l)))
+    let l : k < length ms = omega (arith, a .paired) in
+    eq-of-mul-eq-mul-left u p _ _ (a .quotients k l ∙ sym (b .quotients k l)))
 
 one-split : (ms : List ℕ) (u v : ℕ) (gs hs : List ℕ) (P : ℕ → List ℕ → Type 0) → 0 < u → Split ms u gs → Split ms v hs → P v hs → P u gs
 one-split ms u v gs hs P p a b holds =
@@ -34,11 +34,13 @@ one-split ms u v gs hs P p a b holds =
 
 unfoldable splits : List ℕ → Check
 splits ms = record {
-    Pass = (u : ℕ) × (gs : List ℕ) × Split ms u gs × Accepted u gs; Fail = Split-refused ms;
-    never-both = λ e (counted, fit, (u, gs, a, h)) (v, hs, b, accepted).
-        refused-not-accepted u gs e h (one-split ms u v gs hs Accepted (unit-pos ms u counted fit (a .unit-is)) a b accepted);
-    one = λ e f (counted, fit, (u, gs, a, h)) (_, _, (v, hs, b, k)).
-        one-refusal u gs e f h (one-split ms u v gs hs (λ x xs. Refuses x xs f) (unit-pos ms u counted fit (a .unit-is)) a b k) }
+  Pass = (u : ℕ) × (gs : List ℕ) × Split ms u gs × Accepted u gs;
+  Fail = Split-refused ms;
+  never-both = λ e (counted, fit, (u, gs, a, h)) (v, hs, b, accepted).
+      refused-not-accepted u gs e h (one-split ms u v gs hs Accepted (unit-pos ms u counted fit (a .unit-is)) a b accepted);
+  one = λ e f (counted, fit, (u, gs, a, h)) (_, _, (v, hs, b, k)).
+      one-refusal u gs e f h (one-split ms u v gs hs (λ x xs. Refuses x xs f) (unit-pos ms u counted fit (a .unit-is)) a b k);
+}
 
 unfoldable checks : List ℕ → List Check
 checks ms = plain (Counted ms) Count ∷ each (λ i. From-to 1 (2 ^ 31) (getD ms i 0)) (length ms) Modulus ∷ splits ms ∷ []

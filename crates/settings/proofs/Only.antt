@@ -23,13 +23,16 @@ none-apart u gs n v some coprime below all = ends (product-divides gs (pos d) co
   where
     d : ℕ
     d = n / u
+
     n-is : u * d ≡ n
     n-is = mul-div-cancel' u (dvd-trans u (dvd-mul-right u (getD gs 0 0)) (all 0 some))
+
     divides : (k : ℕ) → k < length gs → Divides (pos (getD gs k 0)) (pos d)
     divides k h =
         let g = getD gs k 0 in
         let here : g ∣ d = dvd-of-mul-dvd-mul-left {k = u} g v (subst (λ (x : ℕ). u * g ∣ x) (sym n-is) (all k h)) in
         (pos (d / g), ap pos (sym (mul-div-cancel' g here)))
+
     ends : Divides (pos (product gs)) (pos d) → n ≡ 0
     ends (pos zero, e) = let f : d ≡ 0 = omega (arith, lin) in sym n-is ∙ ap (λ (x : ℕ). u * x) f ∙ mul-zero u
     ends (pos (suc w), e) = let f : product gs ≤ d = omega (arith, lin) in absurd (omega (arith, mul-le-mul-left u f, n-is))
@@ -38,5 +41,5 @@ none-apart u gs n v some coprime below all = ends (product-divides gs (pos d) co
 pub one-position : (u : ℕ) (gs : List ℕ) → Accepted u gs → One-position u gs
 one-position u gs accepted p q a b same =
     let under : (x y : ℕ) → x < range-of u gs → ((k : ℕ) → k < length gs → x % modulus-at u gs k ≡ y % modulus-at u gs k) → x - y ≡ 0 =
-        λ x y h e. none-apart u gs (x - y) (accepted .unit-fits .0) (accepted .counted .0) (accepted .coprime) (omega arith) (λ k l. apart (modulus-at u gs k) x y (e k l)) in
+    λ x y h e. none-apart u gs (x - y) (accepted .unit-fits .0) (accepted .counted .0) (accepted .coprime) (omega arith) (λ k l. apart (modulus-at u gs k) x y (e k l)) in
     omega (arith, under p q a same, under q p b (λ k l. sym (same k l)))

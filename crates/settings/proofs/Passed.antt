@@ -26,8 +26,13 @@ inverses-coprime n gs table few invert j k l h =
 
 pub passed : (s : Setting) → s .count ≤ length (s .factors) → Accepted (unit-of s) (factors-of s)
 passed s few = record {
-    counted = s .counted; unit-fits = s .«unit_fits»; factors-fit = s .«factors_fit»; moduli-fit = s .«moduli_fit»;
-    coprime = inverses-coprime (s .count) (s .factors) (s .inverses) few (s .«inverses_invert»); range-fits = s .«range_fits» }
+  counted = s .counted;
+  unit-fits = s .«unit_fits»;
+  factors-fit = s .«factors_fit»;
+  moduli-fit = s .«moduli_fit»;
+  coprime = inverses-coprime (s .count) (s .factors) (s .inverses) few (s .«inverses_invert»);
+  range-fits = s .«range_fits»;
+}
 
 pub modulus-kept : (s : Setting) (k : ℕ) → k < s .count → getD (s .moduli) k 0 ≡ modulus-at (unit-of s) (factors-of s) k
 modulus-kept s k h = s .«moduli_are» k h ∙ ap (λ (g : ℕ). s .unit * g) (sym (getD-take (s .count) (s .factors) k 0 h))

@@ -25,7 +25,7 @@ module _ (gs places : List ℕ) (front : take (length gs) places ≡ gs) where
   inverse-placed table made j k (l, h) =
       let i : j < length gs = omega arith in
       subst (λ (x : ℕ). Inverse x (getD places k 0) (inverse-at table j k)) (placed j i)
-        (subst (λ (x : ℕ). Inverse (getD gs j 0) x (inverse-at table j k)) (placed k h) (made j k i l h))
+      (subst (λ (x : ℕ). Inverse (getD gs j 0) x (inverse-at table j k)) (placed k h) (made j k i l h))
 
   pub below-placed : (table : List (List ℕ)) → Inverses-made gs table (length gs) → Inverses-below (length gs) places table
   below-placed table made j k h = inverse-placed table made j k h .below

@@ -22,8 +22,10 @@ unit-pos ms u counted fit is = pos-of-dvd-of-pos (is .common 0 (counted .0)) (fi
 pub split-is : (ms : List ℕ) (u : ℕ) (parts : List ℕ) → length ms ≤ length parts → Greatest-of ms u
     → ((k : ℕ) → k < length ms → getD parts k 0 ≡ getD ms k 0 / u) → Split ms u (take (length ms) parts)
 split-is ms u parts long is quotients = record {
-    unit-is = is; paired = length-take-le (length ms) parts long;
-    quotients = λ k h. ap (λ (x : ℕ). u * x) (getD-take (length ms) parts k 0 h ∙ quotients k h) ∙ mul-div-cancel' u (is .common k h) }
+  unit-is = is;
+  paired = length-take-le (length ms) parts long;
+  quotients = λ k h. ap (λ (x : ℕ). u * x) (getD-take (length ms) parts k 0 h ∙ quotients k h) ∙ mul-div-cancel' u (is .common k h);
+}
 
 -- what a unit and factors are refused for, once their moduli passed
 pub split-refused : (ms : List ℕ) (u : ℕ) (gs : List ℕ) (e : SettingRefusal) → Counted ms → Each-from-to 1 (2 ^ 31) ms → Split ms u gs → Refuses u gs e → Moduli-refused ms e
@@ -38,7 +40,8 @@ split-refused ms u gs (SharedDivisor j k d) counted fit split refused = (counted
 split-refused ms u gs (Range k) counted fit split refused = (counted, fit, (u, gs, split, refused))
 
 pub made-from : (ms : List ℕ) (u : ℕ) (gs : List ℕ) (r : Result Setting SettingRefusal) → Counted ms → Each-from-to 1 (2 ^ 31) ms → Split ms u gs → Makes u gs r → Makes-from-moduli ms r
-made-from ms u gs (Ok s) counted fit split (accepted, has) =
-    (subst (λ (v : ℕ). Accepted v (factors-of s)) (sym (has .unit-is)) (subst (Accepted u) (sym (has .factors-are)) accepted),
-     subst (λ (v : ℕ). Split ms v (factors-of s)) (sym (has .unit-is)) (subst (Split ms u) (sym (has .factors-are)) split))
+made-from ms u gs (Ok s) counted fit split (accepted, has) = (
+  subst (λ (v : ℕ). Accepted v (factors-of s)) (sym (has .unit-is)) (subst (Accepted u) (sym (has .factors-are)) accepted),
+  subst (λ (v : ℕ). Split ms v (factors-of s)) (sym (has .unit-is)) (subst (Split ms u) (sym (has .factors-are)) split),
+)
 made-from ms u gs (Err e) counted fit split refused = split-refused ms u gs e counted fit split refused

@@ -1,5 +1,8 @@
 // Making a setting: the checks in their order.
+ghost use Prim.Native.Nat.{_≤_};
+ghost use lib.ListN.{length, take};
 ghost use mathlib.Core.List.{[], _∷_};
+ghost use mathlib.Core.Path.{_≡_};
 ghost use Rattle.settings.specs.SettingLaws.{Moduli-refused-not-accepted, One-moduli-refusal, One-refusal, Refused-not-accepted};
 ghost use Rattle.settings.specs.Told.{Has, Makes, Makes-from-moduli};
 use crate::Setting;
@@ -8,12 +11,23 @@ use crate::checks::check_count;
 use crate::checks::check_factors;
 use crate::checks::check_moduli;
 use crate::checks::check_unit;
+use crate::inverses::inverses_of;
+use crate::products::moduli_of;
+use crate::products::range_from;
 use crate::splitting::common_divisor;
 use crate::splitting::quotients;
-use crate::tables::inverses_of;
-use crate::tables::kept;
-use crate::tables::moduli_of;
-use crate::tables::range_from;
+
+/// The numbers, and 0 in the places after them.
+fn in_places(numbers: &[u32]) -> [u32; 8]
+    requires { ⌜ length (now numbers) ≤ 8 ⌝ }
+    ensures { λ r. ⌜ take (length (now (numbers .entry))) r ≡ now (numbers .entry) ⌝ }
+{
+    let mut all = [0; 8];
+    for (place, number) in numbers.iter().enumerate() {
+        all[place] = *number;
+    }
+    all
+}
 
 impl Setting {
     /// A setting with this unit and these factors, or the first check that they fail.
@@ -28,7 +42,14 @@ impl Setting {
         let moduli = moduli_of(unit, factors)?;
         let inverses = inverses_of(factors)?;
         let range = range_from(unit, factors)?;
-        Ok(Setting { unit, count: factors.len(), factors: kept(factors), moduli, inverses, range })
+        Ok(Setting {
+            unit,
+            count: factors.len(),
+            factors: in_places(factors),
+            moduli,
+            inverses,
+            range,
+        })
     }
 
     /// A setting whose channels have these moduli, or the first check that they
@@ -49,6 +70,13 @@ impl Setting {
     pub fn first() -> Setting
         ensures { λ r. ⌜ Has r 1 (2 ∷ []) ⌝ }
     {
-        Setting { unit: 1, count: 1, factors: [2, 0, 0, 0, 0, 0, 0, 0], moduli: [2, 0, 0, 0, 0, 0, 0, 0], inverses: [[0; 8]; 8], range: 2 }
+        Setting {
+            unit: 1,
+            count: 1,
+            factors: [2, 0, 0, 0, 0, 0, 0, 0],
+            moduli: [2, 0, 0, 0, 0, 0, 0, 0],
+            inverses: [[0; 8]; 8],
+            range: 2,
+        }
     }
 }

@@ -12,9 +12,10 @@ pub loop-number-again : need.loop-number-again
 loop-number-again c =
     let xs = c .args .numbers .now in
     let inv = c .loop-number .inv in
-    let is = c .gcd-common .ensures in
-    (below-more _ _ (λ k h. dvd-trans _ (is .left) (inv .0 k h)) (is .right),
-     λ d all. is .greatest d (inv .1 d (λ k h. all k (omega arith))) (all (c .loop-number .number-index) (omega arith)))
+    let is = c .gcd-common .ensures in (
+      below-more _ _ (λ k h. dvd-trans _ (is .left) (inv .0 k h)) (is .right),
+      λ d all. is .greatest d (inv .1 d (λ k h. all k (omega arith))) (all (c .loop-number .number-index) (omega arith)),
+    )
 
 pub returns : need.returns
 returns c =

@@ -9,6 +9,7 @@ pub loop-place-again : need.loop-place-again
 loop-place-again c =
     let xs = c .args .numbers .now in
     let parts = c .loop-place .parts in
-    let i = c .loop-place .place in
-    (length-set parts i (getD xs i 0 / c .args .divisor) ∙ c .loop-place .inv .0,
-     fill-by-more (λ k. getD xs k 0 / c .args .divisor) parts i 0 (omega arith) (c .loop-place .inv .1))
+    let i = c .loop-place .place in (
+      length-set parts i (getD xs i 0 / c .args .divisor) ∙ c .loop-place .inv .0,
+      fill-by-more (λ k. getD xs k 0 / c .args .divisor) parts i 0 (omega arith) (c .loop-place .inv .1),
+    )

@@ -16,8 +16,10 @@ returns-in-Break-check-moduli c = record { never-both = moduli-refused-not-accep
 
 pub quotients-factors-requires : need.quotients-factors-requires
 quotients-factors-requires c κs =
-    record { few = c .in-Continue-check-count .ensures tt .1;
-             divides = unit-pos (c .args .moduli .now) _ (c .in-Continue-check-count .ensures tt) (c .in-Continue-check-moduli .ensures tt) (c .common-divisor-unit .ensures) }
+    record {
+      few = c .in-Continue-check-count .ensures tt .1;
+      divides = unit-pos (c .args .moduli .now) _ (c .in-Continue-check-count .ensures tt) (c .in-Continue-check-moduli .ensures tt) (c .common-divisor-unit .ensures);
+    }
 
 pub returns : need.returns
 returns c =
@@ -26,5 +28,9 @@ returns c =
     let parts = c .quotients-factors .result in
     let long : length ms ≤ length parts = search needs in
     let made : Makes u (take (length ms) parts) (c .new .result) = rw sub-zero at (c .new .ensures .made) in
-    record { never-both = moduli-refused-not-accepted; one-refusal = one-moduli-refusal; made = made-from ms u (take (length ms) parts) (c .new .result) (c .in-Continue-check-count .ensures tt) (c .in-Continue-check-moduli .ensures tt)
-      (split-is ms u parts long (c .common-divisor-unit .ensures) (c .quotients-factors .ensures)) made }
+    record {
+      never-both = moduli-refused-not-accepted;
+      one-refusal = one-moduli-refusal;
+      made = made-from ms u (take (length ms) parts) (c .new .result) (c .in-Continue-check-count .ensures tt) (c .in-Continue-check-moduli .ensures tt)
+          (split-is ms u parts long (c .common-divisor-unit .ensures) (c .quotients-factors .ensures)) made;
+    }

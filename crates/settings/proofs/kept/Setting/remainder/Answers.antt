@@ -35,6 +35,11 @@ pub returns : need.returns
 returns c =
     let s = c .args .self .now in
     let few : s .count ≤ length (s .factors) = search needs in
-    record { told = (omega (arith, s .«range_is»), omega (arith, length-take-le (s .count) (s .factors) few),
-                     ap (λ (m : ℕ). c .args .position % m) (modulus-kept s (c .args .channel) (c .if-channel-self .left)));
-             only = one-position _ _ (passed s few) }
+    record {
+      told = (
+        omega (arith, s .«range_is»),
+        omega (arith, length-take-le (s .count) (s .factors) few),
+        ap (λ (m : ℕ). c .args .position % m) (modulus-kept s (c .args .channel) (c .if-channel-self .left)),
+      );
+      only = one-position _ _ (passed s few);
+    }

@@ -3,7 +3,7 @@ use mathlib.Core.Path.{_≡_, sym, ap, _∙_}
 use Prim.Native.Nat.{_<_}
 use lib.ListN.{length, getD, take, length-set}
 use Rattle.std.proofs.shelf.Lists.{take-more, take-more-set, take-all}
-use Rattle.settings.proofs.tables.kept.Needs as need
+use Rattle.settings.proofs.making.in_places.Needs as need
 
 pub loop-place-again : need.loop-place-again
 loop-place-again c =
@@ -11,9 +11,10 @@ loop-place-again c =
     let xs = c .args .numbers .now in
     let all = c .loop-place .all in
     let inv = c .loop-place .inv in
-    let l : i < length all = omega arith in
-    (length-set all i (getD xs i 0) ∙ inv .0,
-     take-more-set all i (getD xs i 0) l ∙ rw (inv .1) (sym (take-more xs i 0 (c .loop-place-test .taken))))
+    let l : i < length all = omega arith in (
+      length-set all i (getD xs i 0) ∙ inv .0,
+      take-more-set all i (getD xs i 0) l ∙ rw (inv .1) (sym (take-more xs i 0 (c .loop-place-test .taken))),
+    )
 
 pub returns : need.returns
 returns c =

@@ -6,7 +6,7 @@ use mathlib.Core.List.{[]}
 use lib.ListN.{length, replicate}
 use Rattle.std.proofs.shelf.Lists.{getD-replicate}
 use Rattle.std.proofs.shelf.Results.{err-from-errBy}
-use Rattle.settings.proofs.tables.inverses_of.Needs as need
+use Rattle.settings.proofs.inverses.inverses_of.Needs as need
 
 pub loop-first-holds : need.loop-first-holds
 loop-first-holds c = (λ k h. ap length (getD-replicate 8 k (replicate 8 0) [] h), λ j k h. absurd (omega arith))

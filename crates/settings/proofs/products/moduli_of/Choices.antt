@@ -3,7 +3,7 @@ use Prim.Native.Nat.{ℕ, _<_}
 use lib.ListN.{length, take}
 use Rattle.settings.specs.Kept.{Moduli}
 use Rattle.settings.specs.Settings.{Modulus-fits}
-use Rattle.settings.proofs.tables.moduli_of.Given as given
+use Rattle.settings.proofs.products.moduli_of.Given as given
 
 abbrev pub Inv-loop-channel : given.InvT-loop-channel
 Inv-loop-channel l =

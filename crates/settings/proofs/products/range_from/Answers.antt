@@ -7,7 +7,7 @@ use lib.ListN.{length, getD, take}
 use lib.Seq.{take-length}
 use Rattle.settings.specs.Settings.{range-of}
 use Rattle.settings.proofs.Ranges.{range-more}
-use Rattle.settings.proofs.tables.range_from.Needs as need
+use Rattle.settings.proofs.products.range_from.Needs as need
 
 pub loop-channel-again : need.loop-channel-again
 loop-channel-again c =
@@ -29,5 +29,5 @@ returns c =
     let gs = c .args .factors .now in
     let all : c .loop-channel .channel ≡ length gs = omega arith in
     let e : c .loop-channel .range ≡ range-of (c .args .unit) gs =
-        c .loop-channel .inv .0 ∙ ap (λ (n : ℕ). range-of (c .args .unit) (take n gs)) all ∙ ap (range-of (c .args .unit)) (take-length gs) in
+    c .loop-channel .inv .0 ∙ ap (λ (n : ℕ). range-of (c .args .unit) (take n gs)) all ∙ ap (range-of (c .args .unit)) (take-length gs) in
     (e, omega arith)

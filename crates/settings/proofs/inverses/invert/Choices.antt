@@ -2,7 +2,7 @@ use mathlib.Core.Path.{_≡_}
 use lib.ListN.{length}
 use Rattle.settings.specs.Tables.{Inverses-made, Rows-of-eight}
 use Rattle.settings.proofs.Filled.{Column}
-use Rattle.settings.proofs.tables.invert.Given as given
+use Rattle.settings.proofs.inverses.invert.Given as given
 
 abbrev pub Inv-loop-second : given.InvT-loop-second
 Inv-loop-second l =

@@ -1,7 +1,7 @@
 use native.Mathlib.Nat.{mod-eq-of-lt}
 use mathlib.Core.Path.{_≡_, ap, _∙_}
 use Prim.Native.Nat.{ℕ, _%_}
-use Rattle.settings.proofs.tables.inverse_of.Needs as need
+use Rattle.settings.proofs.inverses.inverse_of.Needs as need
 
 -- 1 modulo a number above 1 is 1
 pub returns-in-Some : need.returns-in-Some
