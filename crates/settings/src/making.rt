@@ -17,7 +17,7 @@ use crate::products::range_from;
 use crate::splitting::common_divisor;
 use crate::splitting::quotients;
 
-/// The numbers, and 0 in the places after them.
+/// The numbers, at the front of the places that a setting has.
 fn in_places(numbers: &[u32]) -> [u32; 8]
     requires { ⌜ length (now numbers) ≤ 8 ⌝ }
     ensures { λ r. ⌜ take (length (now (numbers .entry))) r ≡ now (numbers .entry) ⌝ }
