@@ -11,3 +11,4 @@ pub mod Covers
 pub mod Averages
 pub mod Bracketing
 pub mod Assembly
+pub mod Returning

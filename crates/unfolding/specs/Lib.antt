@@ -7,4 +7,5 @@ pub mod Robust
 pub mod Brackets
 pub mod Refusals
 pub mod Told
+pub mod Returns
 pub mod Unfolds

@@ -6,6 +6,8 @@ ghost use lib.Signed.{_≤ℤ_};
 ghost use mathlib.Core.Path.{_≡_};
 ghost use Rattle.unfolding.specs.Channels.{Greatest-at, Least-at, Moderate, Small};
 ghost use Rattle.unfolding.specs.Ends.{Crossed, begins-at, ends-at};
+ghost use Rattle.settings.specs.Told.{factors-of, unit-of};
+ghost use Rattle.unfolding.specs.Returns.{Finds, Is-found};
 ghost use Rattle.unfolding.specs.Unfolds.{Unfold-answers};
 use crate::UnfoldRefusal;
 use crate::Unfolding;
@@ -36,6 +38,8 @@ fn contradictory(unfolded: &[i64], bounds: &[u32], ends: (i64, i64)) -> UnfoldRe
 /// bracket of positions that every reading allows, and the mean.
 pub fn unfold(setting: &Setting, readings: &[u32], bounds: &[u32]) -> Result<Unfolding, UnfoldRefusal>
     ensures answers { λ r. ⌜ Unfold-answers (now (setting .entry)) (now (readings .entry)) (now (bounds .entry)) r ⌝ }
+    ensures finds { λ r. ⌜ Finds (unit-of (now (setting .entry))) (factors-of (now (setting .entry))) (now (readings .entry)) (now (bounds .entry)) r ⌝ }
+    ensures found { λ r. ⌜ Is-found (unit-of (now (setting .entry))) (factors-of (now (setting .entry))) (now (readings .entry)) (now (bounds .entry)) r ⌝ }
 {
     check(setting, readings, bounds)?;
     let folding = fold(setting, readings);

@@ -1,7 +1,5 @@
 // The checks of readings and bounds, in their order.
-ghost use Prim.Native.Nat.{ℕ, _<_};
-ghost use lib.ListN.{length};
-ghost use Rattle.std.specs.declared.result.Result.the-variants.{Ok, Err};
+ghost use Rattle.settings.specs.Settings.{Accepted};
 ghost use Rattle.settings.specs.Told.{factors-of, unit-of};
 ghost use Rattle.unfolding.specs.Refusals.{Checked};
 use crate::UnfoldRefusal;
@@ -10,9 +8,10 @@ use settings::Setting;
 /// One reading and one bound for each channel, each bound under a quarter of
 /// the unit, each reading below its modulus; or the first check that fails.
 pub(crate) fn check(setting: &Setting, readings: &[u32], bounds: &[u32]) -> Result<(), UnfoldRefusal>
-    ensures { λ r. ⌜ Checked (unit-of (now (setting .entry))) (factors-of (now (setting .entry))) (now (readings .entry)) (now (bounds .entry)) r ⌝ }
+    ensures checked { λ r. ⌜ Checked (unit-of (now (setting .entry))) (factors-of (now (setting .entry))) (now (readings .entry)) (now (bounds .entry)) r ⌝ }
+    ensures accepted { λ _. ⌜ Accepted (unit-of (now (setting .entry))) (factors-of (now (setting .entry))) ⌝ }
 {
-    let channels = setting.count();
+    let channels = setting.factors().len();
     if readings.len() != channels {
         return Err(UnfoldRefusal::Readings { count: readings.len(), channels });
     }

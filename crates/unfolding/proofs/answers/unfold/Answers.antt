@@ -7,10 +7,12 @@ use lib.ListN.{length}
 use mir.Syntax.{w64}
 use mir.Val.{toZ, ofZ}
 use Rattle.std.proofs.shelf.Signed.{toZ-ofZ}
+use Rattle.std.proofs.shelf.Results.{err-from-errBy}
 use Rattle.residues.specs.Circle.{_modulo_}
 use Rattle.unfolding.specs.Channels.{position-of}
 use Rattle.unfolding.proofs.Extremes.{small-fits, less-read, not-less-read, weaker}
 use Rattle.unfolding.proofs.Assembly.{counted, paired, moderate, contradicted, unfolds}
+use Rattle.unfolding.proofs.Returning.{found, is-found, not-refused}
 use Rattle.unfolding.proofs.answers.unfold.Needs as need
 
 -- a number brought into the range, told by what the code has for both
@@ -19,9 +21,9 @@ reduced-read {r} {R} {R′} {z} {z′} e f g = e ∙ ap (λ n. z modulo n) f ∙
 
 pub ends-ends-requires : need.ends-ends-requires
 ends-ends-requires c κs =
-    let a = c .fold-folding .ensures .accepted in
-    let fine = c .in-Continue-check .ensures tt in
-    let d = c .fold-folding .ensures .folded in
+    let a = c .check .ensures .accepted in
+    let fine = c .in-Continue-check .ensures tt .checked in
+    let d = c .fold-folding .ensures in
     let cs = c .unfolded-unfolded .result .now in
     let cut = c .unfolded-unfolded .ensures in
     let n : length cs ≡ _ = counted _ _ _ _ a fine _ d cs cut (search needs) in
@@ -29,9 +31,9 @@ ends-ends-requires c κs =
 
 pub contradictory-requires : need.contradictory-requires
 contradictory-requires c κs =
-    let a = c .fold-folding .ensures .accepted in
-    let fine = c .in-Continue-check .ensures tt in
-    let d = c .fold-folding .ensures .folded in
+    let a = c .check .ensures .accepted in
+    let fine = c .in-Continue-check .ensures tt .checked in
+    let d = c .fold-folding .ensures in
     let cs = c .unfolded-unfolded .result .now in
     let cut = c .unfolded-unfolded .ensures in
     let s = c .ends-ends .ensures .small in
@@ -41,14 +43,15 @@ contradictory-requires c κs =
 pub returns-then-ends : need.returns-then-ends
 returns-then-ends c =
     let s = c .ends-ends .ensures .small in
-    record { answers = contradicted _ _ _ _ (c .fold-folding .ensures .accepted) (c .in-Continue-check .ensures tt) _ (c .fold-folding .ensures .folded) (c .unfolded-unfolded .result .now) (c .unfolded-unfolded .ensures) (search needs)
-               _ _ (less-read _ _ (s .1) (s .0) (c .if-ends .taken)) _ (c .contradictory .ensures) }
+    let refused = contradicted _ _ _ _ (c .check .ensures .accepted) (c .in-Continue-check .ensures tt .checked) _ (c .fold-folding .ensures) (c .unfolded-unfolded .result .now) (c .unfolded-unfolded .ensures) (search needs)
+               _ _ (less-read _ _ (s .1) (s .0) (c .if-ends .taken)) _ (c .contradictory .ensures) in
+    record { answers = refused; finds = tt; found = not-refused _ _ _ _ (c .check .ensures .accepted) _ refused }
 
 pub rounded-requires : need.rounded-requires
 rounded-requires c κs =
-    let a = c .fold-folding .ensures .accepted in
-    let fine = c .in-Continue-check .ensures tt in
-    let d = c .fold-folding .ensures .folded in
+    let a = c .check .ensures .accepted in
+    let fine = c .in-Continue-check .ensures tt .checked in
+    let d = c .fold-folding .ensures in
     let cs = c .unfolded-unfolded .result .now in
     let cut = c .unfolded-unfolded .ensures in
     let n : length cs ≡ _ = counted _ _ _ _ a fine _ d cs cut (search needs) in
@@ -60,8 +63,15 @@ returns c =
     let lo = toZ-ofZ w64 (c .ends-ends .result .0) (small-fits _ (s .0)) in
     let hi = toZ-ofZ w64 (c .ends-ends .result .1) (small-fits _ (s .1)) in
     let range = c .range-range .ensures in
-    record { answers = unfolds _ _ _ _ (c .fold-folding .ensures .accepted) (c .in-Continue-check .ensures tt) _ (c .fold-folding .ensures .folded) (c .unfolded-unfolded .result .now) (c .unfolded-unfolded .ensures) (search needs)
+    let told = unfolds _ _ _ _ (c .check .ensures .accepted) (c .in-Continue-check .ensures tt .checked) _ (c .fold-folding .ensures) (c .unfolded-unfolded .result .now) (c .unfolded-unfolded .ensures) (search needs)
                _ refl (search needs) (search needs) (c .ends-ends .ensures .lo) (c .ends-ends .ensures .hi) (not-less-read _ _ (s .1) (s .0) (c .if-ends .left))
                (reduced-read (c .reduced-start .ensures) range lo)
                (ap (λ z. z +ℤ pos 1) (c .span-count .ensures ∙ ap (λ z. z -ℤ toZ w64 (ofZ w64 (c .ends-ends .result .0))) hi ∙ ap (λ z. c .ends-ends .result .1 -ℤ z) lo))
-               (reduced-read (c .reduced-mean .ensures) range (toZ-ofZ w64 (c .rounded .result) (search needs) ∙ c .rounded .ensures)) }
+               (reduced-read (c .reduced-mean .ensures) range (toZ-ofZ w64 (c .rounded .result) (search needs) ∙ c .rounded .ensures)) in
+    record { answers = told; finds = found _ _ _ _ (c .check .ensures .accepted) _ told; found = is-found _ _ _ _ (c .check .ensures .accepted) _ told }
+
+pub returns-in-Break-check : need.returns-in-Break-check
+returns-in-Break-check c =
+    let p = err-from-errBy (c .from-residual .result) (c .from-residual .ensures .1) in
+    let refused = c .in-Break-check .ensures tt .checked in
+    rw (p .1, p .2) (record { answers = refused; finds = tt; found = not-refused _ _ _ _ (c .check .ensures .accepted) _ refused })
