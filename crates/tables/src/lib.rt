@@ -1,0 +1,4 @@
+// The desk's text table, read line by line.
+mod splitting;
+
+pub use splitting::first_word;
