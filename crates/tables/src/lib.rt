@@ -1,8 +1,12 @@
 // The desk's text table, read line by line.
+mod errors;
 mod numerals;
 mod parts;
+mod reading;
 mod splitting;
 
+pub use errors::BadText;
+pub use errors::BadTextDisplay;
 pub use numerals::NoNumber;
 pub use numerals::number;
 pub use parts::Part;
