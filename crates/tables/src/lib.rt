@@ -1,5 +1,6 @@
 // The desk's text table, read line by line.
 mod errors;
+mod headings;
 mod numerals;
 mod parts;
 mod reading;
@@ -7,6 +8,7 @@ mod splitting;
 
 pub use errors::BadText;
 pub use errors::BadTextDisplay;
+pub use headings::Heading;
 pub use numerals::NoNumber;
 pub use numerals::number;
 pub use parts::Part;

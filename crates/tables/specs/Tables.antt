@@ -1,0 +1,53 @@
+-- What the lines of a table mean, one after another. Assumes nothing.
+use mathlib.Core.Path.{_≡_}
+use mathlib.Core.Bool.{Bool, true, false, cond, _||_}
+use mathlib.Core.List.{List, [], _∷_}
+use mathlib.Core.Logic.{_⊎_}
+use Prim.Native.Nat.{ℕ}
+use lib.ListN.{drop}
+use Rattle.std.specs.declared.result.Result.{Result}
+use Rattle.std.specs.declared.result.Result.the-variants.{Ok, Err}
+use Rattle.tables.specs.declared.errors.BadText.{BadText}
+use Rattle.tables.specs.declared.errors.BadText.the-variants.{NoModuli, NoBounds, SecondModuli, SecondBounds, SecondNote, LateNote, NoMemory}
+use Rattle.tables.specs.declared.headings.Heading.{Heading}
+use Rattle.tables.specs.declared.parts.Part.{Part}
+use Rattle.tables.specs.declared.parts.Part.the-variants.{Passed, Note, Moduli, Bounds, Row}
+use Rattle.tables.specs.Lines.{partOf}
+use Rattle.tables.specs.Numbers.{numbersFrom}
+use Rattle.tables.specs.Words.{words}
+
+-- whether a line may stand after those that were seen
+abbrev pub allowed : Heading → Part → Result (Unit {0}) BadText
+allowed h Passed = Ok tt
+allowed h Note = cond (h .note) (Err SecondNote) (cond (h .moduli || h .bounds) (Err LateNote) (Ok tt))
+allowed h Moduli = cond (h .moduli) (Err SecondModuli) (Ok tt)
+allowed h Bounds = cond (h .bounds) (Err SecondBounds) (Ok tt)
+allowed h Row = cond (h .moduli) (cond (h .bounds) (Ok tt) (Err NoBounds)) (Err NoModuli)
+
+abbrev pub seenAfter : Part → Heading → Heading
+seenAfter Passed h = h
+seenAfter Note h = record { note = true; moduli = h .moduli; bounds = h .bounds }
+seenAfter Moduli h = record { note = h .note; moduli = true; bounds = h .bounds }
+seenAfter Bounds h = record { note = h .note; moduli = h .moduli; bounds = true }
+seenAfter Row h = h
+
+-- the numbers of a line with these words: only in a row a dash is one
+abbrev pub numbersOf : Part → List (List ℕ) → Result (List ℕ) BadText
+numbersOf Passed ws = Ok []
+numbersOf Note ws = Ok []
+numbersOf Moduli ws = numbersFrom false 1 (drop 1 ws)
+numbersOf Bounds ws = numbersFrom false 1 (drop 1 ws)
+numbersOf Row ws = numbersFrom true 0 ws
+
+abbrev pub andThen : Result (Unit {0}) BadText → Result (List ℕ) BadText → Result (List ℕ) BadText
+andThen (Ok u) r = r
+andThen (Err e) r = Err e
+
+-- the numbers of a line after those that were seen, or what is wrong with it: its place before its words
+abbrev pub lineIn : Heading → List ℕ → Result (List ℕ) BadText
+lineIn h line = andThen (allowed h (partOf line)) (numbersOf (partOf line) (words line))
+
+-- what reading a line does: with bad text, or without memory, nothing was seen and there are no numbers
+abbrev pub Taken : Heading → List ℕ → Result Part BadText → List ℕ → Heading → Type 0
+Taken h line (Ok p) ns h′ = (p ≡ partOf line) × (lineIn h line ≡ Ok ns) × (h′ ≡ seenAfter p h)
+Taken h line (Err e) ns h′ = ((lineIn h line ≡ Err e) ⊎ (e ≡ NoMemory)) × (ns ≡ []) × (h′ ≡ h)

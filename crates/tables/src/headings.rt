@@ -1,0 +1,63 @@
+// A table read line by line: what was seen so far, and what each line is after that.
+ghost use mathlib.Core.Bool.{false, _&&_};
+ghost use mathlib.Core.Path.{_≡_};
+ghost use Rattle.std.specs.Of.Vec.{vec-items};
+ghost use Rattle.tables.specs.Numbers.{Filled};
+ghost use Rattle.tables.specs.Tables.{allowed, seenAfter, numbersOf, Taken};
+ghost use Rattle.tables.specs.Words.{words};
+use crate::errors::BadText;
+use crate::parts::Part;
+use crate::parts::part_of;
+use crate::reading::read_numbers;
+use crate::splitting::first_word;
+
+/// Which lines of a table's heading were seen so far.
+#[derive(Clone, Copy, PartialEq, Eq, Debug)]
+pub struct Heading {
+    note: bool,
+    moduli: bool,
+    bounds: bool,
+}
+
+impl Heading {
+    /// Nothing was seen yet.
+    pub fn new() -> Heading
+        ensures { λ r. ⌜ (r .note ≡ false) × (r .moduli ≡ false) × (r .bounds ≡ false) ⌝ }
+    {
+        Heading { note: false, moduli: false, bounds: false }
+    }
+
+    /// Whether both lines were seen that stand before the rows.
+    pub fn is_complete(&self) -> bool
+        ensures { λ r. ⌜ r ≡ (now (self .entry) .moduli && now (self .entry) .bounds) ⌝ }
+    {
+        self.moduli && self.bounds
+    }
+
+    /// Whether such a line may stand here.
+    fn allow(&self, part: Part) -> Result<(), BadText>
+        ensures { λ r. ⌜ r ≡ allowed (now (self .entry)) part ⌝ }
+    {
+        match part {
+            Part::Note if self.note => Err(BadText::SecondNote),
+            Part::Note if self.moduli || self.bounds => Err(BadText::LateNote),
+            Part::Moduli if self.moduli => Err(BadText::SecondModuli),
+            Part::Bounds if self.bounds => Err(BadText::SecondBounds),
+            Part::Row if !self.moduli => Err(BadText::NoModuli),
+            Part::Row if !self.bounds => Err(BadText::NoBounds),
+            _ => Ok(()),
+        }
+    }
+
+    /// What was seen once such a line was, too.
+    fn after(self, part: Part) -> Heading
+        ensures { λ r. ⌜ r ≡ seenAfter part self ⌝ }
+    {
+        match part {
+            Part::Note => Heading { note: true, ..self },
+            Part::Moduli => Heading { moduli: true, ..self },
+            Part::Bounds => Heading { bounds: true, ..self },
+            Part::Row | Part::Passed => self,
+        }
+    }
+}
