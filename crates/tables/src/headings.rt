@@ -3,6 +3,7 @@ ghost use mathlib.Core.Bool.{false, _&&_};
 ghost use mathlib.Core.Path.{_≡_};
 ghost use Rattle.std.specs.Of.Vec.{vec-items};
 ghost use Rattle.tables.specs.Numbers.{Filled};
+ghost use Rattle.tables.specs.declared.parts.Part.the-variants.{Row};
 ghost use Rattle.tables.specs.Tables.{allowed, seenAfter, numbersOf, Taken};
 ghost use Rattle.tables.specs.Words.{words};
 use crate::errors::BadText;
@@ -34,6 +35,29 @@ impl Heading {
         self.moduli && self.bounds
     }
 
+    /// What is wrong with a table that ends here, if anything is.
+    pub fn end(&self) -> Result<(), BadText>
+        ensures { λ r. ⌜ r ≡ allowed (now (self .entry)) Row ⌝ }
+    {
+        self.allow(Part::Row)
+    }
+
+    /// Reads the next line: what it is, with its numbers in place of those in `numbers`.
+    /// With bad text, or without memory, nothing was seen and `numbers` is empty.
+    pub fn line(&mut self, text: &[u8], numbers: &mut Vec<u32>) -> Result<Part, BadText>
+        ensures { λ r. ⌜ Taken (now (self .entry)) (now (text .entry)) r (vec-items (now (numbers .exit))) (now (self .exit)) ⌝ }
+    {
+        numbers.clear();
+        let part = part_of(text);
+        self.allow(part)?;
+        if let Err(bad) = fill(part, text, numbers) {
+            numbers.clear();
+            return Err(bad);
+        }
+        *self = self.after(part);
+        Ok(part)
+    }
+
     /// Whether such a line may stand here.
     fn allow(&self, part: Part) -> Result<(), BadText>
         ensures { λ r. ⌜ r ≡ allowed (now (self .entry)) part ⌝ }
@@ -59,5 +83,20 @@ impl Heading {
             Part::Bounds => Heading { bounds: true, ..self },
             Part::Row | Part::Passed => self,
         }
+    }
+}
+
+/// Fills `numbers` with the numbers of a line.
+fn fill(part: Part, text: &[u8], numbers: &mut Vec<u32>) -> Result<(), BadText>
+    ensures { λ r. ⌜ Filled (numbersOf part (words (now (text .entry)))) r (vec-items (now (numbers .exit))) ⌝ }
+{
+    numbers.clear();
+    match part {
+        Part::Passed | Part::Note => Ok(()),
+        Part::Row => read_numbers(text, 0, true, numbers),
+        Part::Moduli | Part::Bounds => match first_word(text) {
+            None => Ok(()),
+            Some((_, rest)) => read_numbers(rest, 1, false, numbers),
+        },
     }
 }
