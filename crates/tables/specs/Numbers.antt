@@ -3,8 +3,9 @@ use mathlib.Core.Path.{_≡_}
 use mathlib.Core.Bool.{Bool, cond}
 use mathlib.Core.List.{List, [], _∷_}
 use mathlib.Core.Logic.{_⊎_}
-use Prim.Native.Nat.{ℕ, _+_, _-_, _^_}
+use Prim.Native.Nat.{ℕ, _+_, _-_, _^_, _<_}
 use lib.Chars.{codes}
+use lib.ListN.{length}
 use Rattle.std.specs.declared.result.Result.{Result}
 use Rattle.std.specs.declared.result.Result.the-variants.{Ok, Err}
 use Rattle.std.specs.shelf.Text.{sameBytes}
@@ -38,7 +39,11 @@ abbrev pub numbersFrom : Bool → ℕ → List (List ℕ) → Result (List ℕ) 
 numbersFrom dark k [] = Ok []
 numbersFrom dark k (w ∷ ws) = ahead (numberAt dark (k + 1) w) (numbersFrom dark (k + 1) ws)
 
--- the list that a call fills is what it should be, or its refusal is that or a want of memory
-abbrev pub Filled : Result (List ℕ) BadText → Result (Unit {0}) BadText → List ℕ → Type 0
-Filled told (Ok u) ns = told ≡ Ok ns
-Filled told (Err e) ns = (told ≡ Err e) ⊎ (e ≡ NoMemory)
+-- memory was wanting: the list had no room for so many words
+abbrev pub NoRoom : ℕ → List (List ℕ) → BadText → Type 0
+NoRoom room ws e = (e ≡ NoMemory) × (room < length ws)
+
+-- a list with room for so many numbers was filled with those that were told, or the refusal is that which was told, or a want of memory
+abbrev pub Filled : ℕ → List (List ℕ) → Result (List ℕ) BadText → Result (Unit {0}) BadText → List ℕ → Type 0
+Filled room ws told (Ok u) ns = told ≡ Ok ns
+Filled room ws told (Err e) ns = (told ≡ Err e) ⊎ NoRoom room ws e

@@ -8,12 +8,12 @@ use lib.ListN.{drop}
 use Rattle.std.specs.declared.result.Result.{Result}
 use Rattle.std.specs.declared.result.Result.the-variants.{Ok, Err}
 use Rattle.tables.specs.declared.errors.BadText.{BadText}
-use Rattle.tables.specs.declared.errors.BadText.the-variants.{NoModuli, NoBounds, SecondModuli, SecondBounds, SecondNote, LateNote, NoMemory}
+use Rattle.tables.specs.declared.errors.BadText.the-variants.{NoModuli, NoBounds, SecondModuli, SecondBounds, SecondNote, LateNote}
 use Rattle.tables.specs.declared.headings.Heading.{Heading}
 use Rattle.tables.specs.declared.parts.Part.{Part}
 use Rattle.tables.specs.declared.parts.Part.the-variants.{Passed, Note, Moduli, Bounds, Row}
 use Rattle.tables.specs.Lines.{partOf}
-use Rattle.tables.specs.Numbers.{numbersFrom}
+use Rattle.tables.specs.Numbers.{numbersFrom, NoRoom}
 use Rattle.tables.specs.Words.{words}
 
 -- whether a line may stand after those that were seen
@@ -47,7 +47,7 @@ andThen (Err e) r = Err e
 abbrev pub lineIn : Heading → List ℕ → Result (List ℕ) BadText
 lineIn h line = andThen (allowed h (partOf line)) (numbersOf (partOf line) (words line))
 
--- what reading a line does: with bad text, or without memory, nothing was seen and there are no numbers
-abbrev pub Taken : Heading → List ℕ → Result Part BadText → List ℕ → Heading → Type 0
-Taken h line (Ok p) ns h′ = (p ≡ partOf line) × (lineIn h line ≡ Ok ns) × (h′ ≡ seenAfter p h)
-Taken h line (Err e) ns h′ = ((lineIn h line ≡ Err e) ⊎ (e ≡ NoMemory)) × (ns ≡ []) × (h′ ≡ h)
+-- what reading a line does: with bad text, or with no room for the numbers, nothing was seen and there are no numbers
+abbrev pub Taken : Heading → List ℕ → ℕ → Result Part BadText → List ℕ → Heading → Type 0
+Taken h line room (Ok p) ns h′ = (p ≡ partOf line) × (lineIn h line ≡ Ok ns) × (h′ ≡ seenAfter p h)
+Taken h line room (Err e) ns h′ = ((lineIn h line ≡ Err e) ⊎ NoRoom room (words line) e) × (ns ≡ []) × (h′ ≡ h)

@@ -1,7 +1,7 @@
 // A table read line by line: what was seen so far, and what each line is after that.
 ghost use mathlib.Core.Bool.{false, _&&_};
 ghost use mathlib.Core.Path.{_≡_};
-ghost use Rattle.std.specs.Of.Vec.{vec-items};
+ghost use Rattle.std.specs.Of.Vec.{vec-cap, vec-items};
 ghost use Rattle.tables.specs.Numbers.{Filled};
 ghost use Rattle.tables.specs.declared.parts.Part.the-variants.{Row};
 ghost use Rattle.tables.specs.Tables.{allowed, seenAfter, numbersOf, Taken};
@@ -45,7 +45,7 @@ impl Heading {
     /// Reads the next line: what it is, with its numbers in place of those in `numbers`.
     /// With bad text, or without memory, nothing was seen and `numbers` is empty.
     pub fn line(&mut self, text: &[u8], numbers: &mut Vec<u32>) -> Result<Part, BadText>
-        ensures { λ r. ⌜ Taken (now (self .entry)) (now (text .entry)) r (vec-items (now (numbers .exit))) (now (self .exit)) ⌝ }
+        ensures { λ r. ⌜ Taken (now (self .entry)) (now (text .entry)) (vec-cap (now (numbers .entry))) r (vec-items (now (numbers .exit))) (now (self .exit)) ⌝ }
     {
         numbers.clear();
         let part = part_of(text);
@@ -88,7 +88,7 @@ impl Heading {
 
 /// Fills `numbers` with the numbers of a line.
 fn fill(part: Part, text: &[u8], numbers: &mut Vec<u32>) -> Result<(), BadText>
-    ensures { λ r. ⌜ Filled (numbersOf part (words (now (text .entry)))) r (vec-items (now (numbers .exit))) ⌝ }
+    ensures { λ r. ⌜ Filled (vec-cap (now (numbers .entry))) (words (now (text .entry))) (numbersOf part (words (now (text .entry)))) r (vec-items (now (numbers .exit))) ⌝ }
 {
     numbers.clear();
     match part {

@@ -2,7 +2,7 @@
 ghost use Prim.Native.Nat.{ℕ, _+_, _^_, _<_};
 ghost use lib.ListN.{length};
 ghost use mathlib.Core.Path.{_≡_};
-ghost use Rattle.std.specs.Of.Vec.{vec-items};
+ghost use Rattle.std.specs.Of.Vec.{vec-cap, vec-items};
 ghost use Rattle.tables.specs.Numbers.{misreadAt, numberAt, numbersFrom, Filled};
 ghost use Rattle.tables.specs.Words.{words};
 use crate::errors::BadText;
@@ -40,7 +40,7 @@ fn number_at(word: &[u8], place: usize, dark: bool) -> Result<u32, BadText>
 /// Fills `numbers` with the numbers of a text that stands after so many words of its line.
 pub fn read_numbers(text: &[u8], before: usize, dark: bool, numbers: &mut Vec<u32>) -> Result<(), BadText>
     requires { ⌜ before + length (now text) < 2 ^ 64 ⌝ }
-    ensures { λ r. ⌜ Filled (numbersFrom dark before (words (now (text .entry)))) r (vec-items (now (numbers .exit))) ⌝ }
+    ensures { λ r. ⌜ Filled (vec-cap (now (numbers .entry))) (words (now (text .entry))) (numbersFrom dark before (words (now (text .entry)))) r (vec-items (now (numbers .exit))) ⌝ }
 {
     numbers.clear();
     let mut rest = text;
