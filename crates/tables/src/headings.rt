@@ -4,6 +4,7 @@ ghost use mathlib.Core.Path.{_≡_};
 ghost use Rattle.std.specs.Of.Vec.{vec-cap, vec-items};
 ghost use Rattle.tables.specs.Numbers.{Filled};
 ghost use Rattle.tables.specs.declared.parts.Part.the-variants.{Row};
+ghost use Rattle.tables.specs.Spelling.{ReadsBack};
 ghost use Rattle.tables.specs.Tables.{allowed, seenAfter, numbersOf, Taken};
 ghost use Rattle.tables.specs.Words.{words};
 use crate::errors::BadText;
@@ -43,9 +44,11 @@ impl Heading {
     }
 
     /// Reads the next line: what it is, with its numbers in place of those in `numbers`.
-    /// With bad text, or without memory, nothing was seen and `numbers` is empty.
+    /// With bad text, or with no room for the numbers, nothing was seen and `numbers` is empty.
+    /// The law says that what is written with single spaces is read back.
     pub fn line(&mut self, text: &[u8], numbers: &mut Vec<u32>) -> Result<Part, BadText>
-        ensures { λ r. ⌜ Taken (now (self .entry)) (now (text .entry)) (vec-cap (now (numbers .entry))) r (vec-items (now (numbers .exit))) (now (self .exit)) ⌝ }
+        ensures law { λ _. ⌜ ReadsBack ⌝ }
+        ensures taken { λ r. ⌜ Taken (now (self .entry)) (now (text .entry)) (vec-cap (now (numbers .entry))) r (vec-items (now (numbers .exit))) (now (self .exit)) ⌝ }
     {
         numbers.clear();
         let part = part_of(text);

@@ -4,6 +4,7 @@ ghost use lib.ListN.{length, getD};
 ghost use mathlib.Core.List.{[], _∷_};
 ghost use mathlib.Core.Path.{_≡_};
 ghost use Rattle.std.specs.Options.{Cases};
+ghost use Rattle.tables.specs.Spelling.{WordsLaw};
 ghost use Rattle.tables.specs.Words.{isSpace, words};
 
 const SPACE: u8 = b' ';
@@ -23,8 +24,10 @@ fn front(text: &[u8], spaces: bool) -> usize
 }
 
 /// The first word of a text and what stands after it, or `None` where it has no word.
+/// The law says what the words of any text are.
 pub fn first_word(text: &[u8]) -> Option<(&[u8], &[u8])>
-    ensures { λ r. ⌜ Cases r (words (now (text .entry)) ≡ []) (λ p. (words (now (text .entry)) ≡ now (p .0) ∷ words (now (p .1))) × (length (now (p .1)) < length (now (text .entry)))) ⌝ }
+    ensures law { λ _. ⌜ WordsLaw ⌝ }
+    ensures cut { λ r. ⌜ Cases r (words (now (text .entry)) ≡ []) (λ p. (words (now (text .entry)) ≡ now (p .0) ∷ words (now (p .1))) × (length (now (p .1)) < length (now (text .entry)))) ⌝ }
 {
     let (_, rest) = text.split_at(front(text, true));
     let (word, after) = rest.split_at(front(rest, false));

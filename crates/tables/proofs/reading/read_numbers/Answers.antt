@@ -10,7 +10,7 @@ loop-word-holds c = (omega arith, none-yet _ _ (c .clear .ensures .items), omega
 
 pub loop-word-again : need.loop-word-again
 loop-word-again c =
-    let read = c .in-Some .ensures tt in
+    let read = c .in-Some .ensures tt .cut in
     let n = sym (c .number-at .ensures) ∙ c .in-Continue-number-at .was tt in
     (
       omega (arith, c .loop-word .inv .0, read .1),
