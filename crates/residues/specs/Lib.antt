@@ -1,0 +1,4 @@
+pub mod Circle
+pub mod Divisors
+pub mod Euclid
+pub mod Products

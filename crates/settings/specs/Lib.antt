@@ -1,0 +1,4 @@
+pub mod Settings
+pub mod Kept
+pub mod Refusals
+pub mod Told

@@ -1,0 +1,1 @@
+// Making a setting: the checks in their order.

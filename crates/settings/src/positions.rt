@@ -1,0 +1,1 @@
+// The remainders of a position.
