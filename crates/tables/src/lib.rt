@@ -1,4 +1,5 @@
 // The desk's text table, read line by line.
+mod answers;
 mod errors;
 mod headings;
 mod numerals;
@@ -6,6 +7,8 @@ mod parts;
 mod reading;
 mod splitting;
 
+pub use answers::refusal_line;
+pub use answers::refusal_record;
 pub use errors::BadText;
 pub use errors::BadTextDisplay;
 pub use headings::Heading;

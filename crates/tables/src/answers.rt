@@ -1,0 +1,42 @@
+// Result lines: a refusal or an unfolding as one line of text.
+ghost use denote.Ref.{now};
+ghost use mathlib.Core.Path.{_≡_};
+ghost use Rattle.std.specs.declared.option.Option.the-variants.{Some};
+ghost use Rattle.std.specs.Of.String.{string-bytes};
+ghost use Rattle.std.specs.Vec.{made};
+ghost use Rattle.tables.specs.Answers.{refusalLine, refusalRecord, spacedSigned};
+use records::Fault;
+use std::alloc::AllocError;
+use std::alloc::Global;
+use std::fmt;
+
+/// Numbers, each after a space.
+#[derive(Clone, Copy)]
+struct Spaced<'a>(&'a [i64]);
+
+impl fmt::Display for Spaced<'_> as SpacedDisplay {
+    ghost shown = { λ x. Some (spacedSigned (now (x .0))) };
+
+    fn fmt<W: fmt::Write>(&self, f: &mut fmt::Formatter<W>) -> fmt::Result {
+        for n in self.0 {
+            write!(f, " {n}")?;
+        }
+        Ok(())
+    }
+}
+
+/// A refusal as a result line.
+pub fn refusal_line(heap: Global, fault: Fault) -> Result<String, AllocError>
+    ensures { λ r. ⌜ made r (λ s. string-bytes s ≡ refusalLine fault) ⌝ }
+{
+    let Fault { code, channel, depth, .. } = fault;
+    format!(heap, "refused {code} channel {channel} depth {depth}")
+}
+
+/// A refusal with its two figures.
+pub fn refusal_record(heap: Global, fault: Fault) -> Result<String, AllocError>
+    ensures { λ r. ⌜ made r (λ s. string-bytes s ≡ refusalRecord fault) ⌝ }
+{
+    let Fault { code, channel, depth, first, second } = fault;
+    format!(heap, "refused {code} channel {channel} depth {depth} figures {first} {second}")
+}
