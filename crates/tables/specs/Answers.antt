@@ -16,3 +16,8 @@ refusalLine f = codes "refused " ++ (decimal (f .code) ++ (codes " channel " ++ 
 
 abbrev pub refusalRecord : Fault → List ℕ
 refusalRecord f = refusalLine f ++ (codes " figures " ++ (decimal (f .first) ++ (codes " " ++ decimal (f .second))))
+
+-- folding numbers and unfolded readings, the bracket's start and count, and the mean
+abbrev pub partsLine : List ℤ → List ℤ → ℕ → ℕ → ℕ → List ℕ
+partsLine folds unfolded start count mean =
+    codes "folds" ++ (spacedSigned folds ++ (codes " unfolded" ++ (spacedSigned unfolded ++ (codes " start " ++ (decimal start ++ (codes " count " ++ (decimal count ++ (codes " mean " ++ decimal mean))))))))

@@ -4,7 +4,7 @@ ghost use mathlib.Core.Path.{_≡_};
 ghost use Rattle.std.specs.declared.option.Option.the-variants.{Some};
 ghost use Rattle.std.specs.Of.String.{string-bytes};
 ghost use Rattle.std.specs.Vec.{made};
-ghost use Rattle.tables.specs.Answers.{refusalLine, refusalRecord, spacedSigned};
+ghost use Rattle.tables.specs.Answers.{partsLine, refusalLine, refusalRecord, spacedSigned};
 use records::Fault;
 use std::alloc::AllocError;
 use std::alloc::Global;
@@ -39,4 +39,13 @@ pub fn refusal_record(heap: Global, fault: Fault) -> Result<String, AllocError>
 {
     let Fault { code, channel, depth, first, second } = fault;
     format!(heap, "refused {code} channel {channel} depth {depth} figures {first} {second}")
+}
+
+/// The line of an unfolding with these parts.
+fn parts_line(heap: Global, folds: &[i64], unfolded: &[i64], start: u64, count: u64, mean: u64) -> Result<String, AllocError>
+    ensures { λ r. ⌜ made r (λ s. string-bytes s ≡ partsLine (now (folds .entry)) (now (unfolded .entry)) start count mean) ⌝ }
+{
+    let folds = Spaced(folds);
+    let unfolded = Spaced(unfolded);
+    format!(heap, "folds{folds} unfolded{unfolded} start {start} count {count} mean {mean}")
 }
