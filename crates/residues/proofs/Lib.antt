@@ -5,3 +5,4 @@ pub mod Congruence
 pub mod Turns
 pub mod Bezout
 pub mod Products
+pub mod Machine

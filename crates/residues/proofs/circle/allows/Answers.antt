@@ -1,15 +1,9 @@
 use native.Mathlib.Omega.{arith}
-use mathlib.Core.Path.{_≡_, ap, _∙_}
 use mathlib.Core.Logic.{_⊎_, inl, inr, _↔_}
-use Prim.Native.Nat.{ℕ, _≤_, _<_, _^_}
+use Prim.Native.Nat.{ℕ, _≤_, _<_}
 use borrow.Author.Needs.{needs}
-use Rattle.std.specs.Numbers.{remEuclid}
 use lib.Dec.{T, leb, leb→le, le→leb}
-use lib.IntN.{ℤ, pos, natAbs}
-use mir.Syntax.{w64}
-use mir.Val.{SFits, toZ, ofZ}
-use Rattle.std.proofs.shelf.Signed.{toZ-ofZ, toZ-pos}
-use Rattle.residues.specs.Circle.{_modulo_}
+use Rattle.residues.proofs.Machine.{remainder-is}
 use Rattle.residues.proofs.Round.{way-ahead, allows-errs}
 use Rattle.residues.proofs.circle.allows.Needs as need
 
@@ -24,17 +18,12 @@ longer a m t Q (to, from) h = (λ x. to (inr (leb→le m t x)), λ q. pick (from
     pick (inl x) = absurd (omega arith)
     pick (inr x) = le→leb m t x
 
--- what `rem_euclid` answers, as the remainder it is
-on-circle : (m : ℕ) (P x : ℤ) → m < 2 ^ 32 → SFits w64 P → SFits w64 x → x ≡ remEuclid (toZ w64 (ofZ w64 P)) (toZ w64 m) → natAbs (toZ w64 (ofZ w64 x)) ≡ P modulo m
-on-circle m P x l f g v =
-    ap natAbs (toZ-ofZ w64 x g ∙ v ∙ ap (λ z. remEuclid z (toZ w64 m)) (toZ-ofZ w64 P f) ∙ ap (remEuclid P) (toZ-pos w64 m (omega arith)))
-
 pub returns-then-ahead-bound : need.returns-then-ahead-bound
 returns-then-ahead-bound c =
-    let o = on-circle (c .args .modulus) (c .args .position) (c .rem-euclid-on-circle .result) (omega arith) (c .fits .position) (search needs) (c .rem-euclid-on-circle .ensures .value) in
+    let o = remainder-is (c .args .modulus) (c .args .position) (c .rem-euclid-on-circle .result) (omega arith) (c .fits .position) (search needs) (c .rem-euclid-on-circle .ensures .value) in
     record { distance = λ h. shorter _ _ _ _ (way-ahead _ _ _ _ _ h o) (omega arith); errors = allows-errs _ _ _ _; nowhere = λ e. absurd (omega arith) }
 
 pub returns-else-ahead-bound : need.returns-else-ahead-bound
 returns-else-ahead-bound c =
-    let o = on-circle (c .args .modulus) (c .args .position) (c .rem-euclid-on-circle .result) (omega arith) (c .fits .position) (search needs) (c .rem-euclid-on-circle .ensures .value) in
+    let o = remainder-is (c .args .modulus) (c .args .position) (c .rem-euclid-on-circle .result) (omega arith) (c .fits .position) (search needs) (c .rem-euclid-on-circle .ensures .value) in
     record { distance = λ h. longer _ _ _ _ (way-ahead _ _ _ _ _ h o) (omega arith); errors = allows-errs _ _ _ _; nowhere = λ e. absurd (omega arith) }

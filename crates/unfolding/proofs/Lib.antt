@@ -1,0 +1,9 @@
+pub mod Filled
+pub mod Peeling
+pub mod Agreed
+pub mod Turning
+pub mod Robustness
+pub mod Arcs
+pub mod Covers
+pub mod Means
+pub mod Bracketing

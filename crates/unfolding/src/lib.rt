@@ -1,0 +1,9 @@
+// Unfolding: from one reading of each channel to folding numbers, bracket and mean.
+mod digits;
+mod kept;
+mod quotients;
+mod refusals;
+
+pub use kept::Folding;
+pub use kept::Unfolding;
+pub use refusals::UnfoldRefusal;
