@@ -1,4 +1,5 @@
 -- Result lines. Assumes nothing.
+use mathlib.Core.Path.{_≡_}
 use mathlib.Core.List.{List, _∷_, _++_}
 use Prim.Native.Nat.{ℕ}
 use lib.Chars.{codes}
@@ -6,6 +7,13 @@ use lib.IntN.{ℤ}
 use Rattle.records.specs.declared.faults.Fault.{Fault}
 use Rattle.std.specs.Joined.{joined}
 use Rattle.std.specs.Written.{decimal, signed}
+use Rattle.std.specs.declared.result.Result.{Result}
+use Rattle.std.specs.declared.result.Result.the-variants.{Ok, Err}
+use Rattle.settings.specs.declared.kept.Setting.{Setting}
+use Rattle.unfolding.specs.declared.kept.Unfolding.{Unfolding}
+use Rattle.unfolding.specs.declared.refusals.UnfoldRefusal.{UnfoldRefusal}
+use Rattle.unfolding.specs.Refusals.{unfold-fault}
+use Rattle.unfolding.specs.Unfolds.{Unfold-answers, folds-of, unfolded-of}
 
 -- each number after a space
 abbrev pub spacedSigned : List ℤ → List ℕ
@@ -21,3 +29,16 @@ refusalRecord f = refusalLine f ++ (codes " figures " ++ (decimal (f .first) ++ 
 abbrev pub partsLine : List ℤ → List ℤ → ℕ → ℕ → ℕ → List ℕ
 partsLine folds unfolded start count mean =
     codes "folds" ++ (spacedSigned folds ++ (codes " unfolded" ++ (spacedSigned unfolded ++ (codes " start " ++ (decimal start ++ (codes " count " ++ (decimal count ++ (codes " mean " ++ decimal mean))))))))
+
+abbrev pub unfoldingLine : Unfolding → List ℕ
+unfoldingLine u = partsLine (folds-of u) (unfolded-of u) (u .start) (u .count) (u .mean)
+
+abbrev pub rowLine : Result Unfolding UnfoldRefusal → List ℕ
+rowLine (Ok u) = unfoldingLine u
+rowLine (Err e) = refusalLine (unfold-fault e)
+
+-- the line of what `unfold` answers
+pub record Answered (s : Setting) (bounds row line : List ℕ) : Type 0 where
+  pub reply : Result Unfolding UnfoldRefusal
+  pub unfolds : Unfold-answers s row bounds reply
+  pub told : line ≡ rowLine reply

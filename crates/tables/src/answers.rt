@@ -4,11 +4,15 @@ ghost use mathlib.Core.Path.{_≡_};
 ghost use Rattle.std.specs.declared.option.Option.the-variants.{Some};
 ghost use Rattle.std.specs.Of.String.{string-bytes};
 ghost use Rattle.std.specs.Vec.{made};
-ghost use Rattle.tables.specs.Answers.{partsLine, refusalLine, refusalRecord, spacedSigned};
+ghost use Rattle.tables.specs.Answers.{Answered, partsLine, refusalLine, refusalRecord, rowLine, spacedSigned, unfoldingLine};
 use records::Fault;
+use settings::Setting;
 use std::alloc::AllocError;
 use std::alloc::Global;
 use std::fmt;
+use unfolding::UnfoldRefusal;
+use unfolding::Unfolding;
+use unfolding::unfold;
 
 /// Numbers, each after a space.
 #[derive(Clone, Copy)]
@@ -48,4 +52,28 @@ fn parts_line(heap: Global, folds: &[i64], unfolded: &[i64], start: u64, count: 
     let folds = Spaced(folds);
     let unfolded = Spaced(unfolded);
     format!(heap, "folds{folds} unfolded{unfolded} start {start} count {count} mean {mean}")
+}
+
+/// An unfolding as a result line.
+pub fn unfolding_line(heap: Global, found: &Unfolding) -> Result<String, AllocError>
+    ensures { λ r. ⌜ made r (λ s. string-bytes s ≡ unfoldingLine (now (found .entry))) ⌝ }
+{
+    parts_line(heap, found.folds(), found.unfolded(), found.start(), found.count(), found.mean())
+}
+
+/// What a row comes to, as a result line.
+pub fn row_line(heap: Global, row: Result<Unfolding, UnfoldRefusal>) -> Result<String, AllocError>
+    ensures { λ r. ⌜ made r (λ s. string-bytes s ≡ rowLine row) ⌝ }
+{
+    match row {
+        Ok(found) => unfolding_line(heap, &found),
+        Err(refusal) => refusal_line(heap, refusal.fault()),
+    }
+}
+
+/// What a row of readings comes to in a setting with these bounds, as a result line.
+pub fn answer(heap: Global, setting: &Setting, bounds: &[u32], row: &[u32]) -> Result<String, AllocError>
+    ensures { λ r. ⌜ made r (λ s. Answered (now (setting .entry)) (now (bounds .entry)) (now (row .entry)) (string-bytes s)) ⌝ }
+{
+    row_line(heap, unfold(setting, row, bounds))
 }
