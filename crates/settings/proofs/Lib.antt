@@ -1,1 +1,9 @@
 pub mod Passed
+pub mod Filled
+pub mod Ranges
+pub mod Placed
+pub mod Splits
+pub mod Only
+pub mod Chains
+pub mod Laws
+pub mod ModuliLaws

@@ -9,7 +9,9 @@ use lib.Seq.{getD-take}
 use Rattle.residues.specs.Divisors.{Coprime}
 use Rattle.residues.specs.Products.{Pairwise-coprime}
 use Rattle.settings.specs.Kept.{inverse-at, Inverses-below, Inverses-invert, Moduli}
-use Rattle.settings.specs.Told.{Inverse}
+use Rattle.settings.specs.declared.kept.Setting.{Setting}
+use Rattle.settings.specs.Settings.{Accepted, modulus-at}
+use Rattle.settings.specs.Told.{Inverse, unit-of, factors-of}
 
 -- a factor that has an inverse shares no divisor with the modulus
 pub inverse-coprime : (g h x : ℕ) → (g * x) % h ≡ 1 → Coprime g h
@@ -21,6 +23,19 @@ inverses-coprime n gs table few invert j k l h =
     let kn : k < n = omega (arith, length-take n gs) in
     let jn : j < n = omega arith in
     rw (getD-take, getD-take) (inverse-coprime (getD gs j 0) (getD gs k 0) (inverse-at table j k) (invert j k (l, kn)))
+
+pub passed : (s : Setting) → s .count ≤ length (s .factors) → Accepted (unit-of s) (factors-of s)
+passed s few = record {
+  counted = s .counted;
+  unit-fits = s .«unit_fits»;
+  factors-fit = s .«factors_fit»;
+  moduli-fit = s .«moduli_fit»;
+  coprime = inverses-coprime (s .count) (s .factors) (s .inverses) few (s .«inverses_invert»);
+  range-fits = s .«range_fits»;
+}
+
+pub modulus-kept : (s : Setting) (k : ℕ) → k < s .count → getD (s .moduli) k 0 ≡ modulus-at (unit-of s) (factors-of s) k
+modulus-kept s k h = s .«moduli_are» k h ∙ ap (λ (g : ℕ). s .unit * g) (sym (getD-take (s .count) (s .factors) k 0 h))
 
 pub moduli-told : (u n : ℕ) (gs ms xs : List ℕ) → xs ≡ take n ms → n ≤ length gs → n ≤ length ms → Moduli u n gs ms → (k : ℕ) → k < length (take n gs) → getD xs k 0 ≡ u * getD (take n gs) k 0
 moduli-told u n gs ms xs e l m are k h =

@@ -47,7 +47,7 @@ pub record Passes-first (u : ℕ) (gs : List ℕ) (k : ℕ) : Type 0 where
   pub fits-before : range-of u (take k gs) ≤ 2 ^ 40
   pub passes : 2 ^ 40 < range-of u (take (suc k) gs)
 
--- checks 1 to n of a unit and factors pass
+-- the first four checks of a unit and factors pass
 pub record Four-pass (u : ℕ) (gs : List ℕ) : Type 0 where
   pub counted : Counted gs
   pub unit-fits : Unit-fits u

@@ -44,10 +44,14 @@ pub record Accepted (u : ℕ) (gs : List ℕ) : Type 0 where
   pub coprime : Pairwise-coprime gs
   pub range-fits : Range-fits u gs
 
--- the unit and the factors that moduli have: their greatest common divisor, and the quotients
-pub record Split (ms : List ℕ) (u : ℕ) (gs : List ℕ) : Type 0 where
+-- u divides every one of them, and each number that does divides u
+pub record Greatest-of (ms : List ℕ) (u : ℕ) : Type 0 where
   pub common : (k : ℕ) → k < length ms → u ∣ getD ms k 0
   pub greatest : (d : ℕ) → ((k : ℕ) → k < length ms → d ∣ getD ms k 0) → d ∣ u
+
+-- the unit and the factors that moduli have: their greatest common divisor, and the quotients
+pub record Split (ms : List ℕ) (u : ℕ) (gs : List ℕ) : Type 0 where
+  pub unit-is : Greatest-of ms u
   pub paired : length gs ≡ length ms
   pub quotients : (k : ℕ) → k < length ms → modulus-at u gs k ≡ getD ms k 0
 

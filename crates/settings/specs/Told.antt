@@ -44,9 +44,9 @@ abbrev pub Makes : (u : ℕ) (gs : List ℕ) → Result Setting SettingRefusal �
 Makes u gs (Ok s) = Accepted u gs × Has s u gs
 Makes u gs (Err e) = Refuses u gs e
 
--- a setting from moduli
+-- a setting from moduli: all checks pass, or the first that fails is told
 abbrev pub Makes-from-moduli : (ms : List ℕ) → Result Setting SettingRefusal → Type 0
-Makes-from-moduli ms (Ok s) = Split ms (unit-of s) (factors-of s)
+Makes-from-moduli ms (Ok s) = Accepted (unit-of s) (factors-of s) × Split ms (unit-of s) (factors-of s)
 Makes-from-moduli ms (Err e) = Moduli-refused ms e
 
 -- the remainder of a position in a channel

@@ -11,13 +11,23 @@ pub enum SettingRefusal {
     /// The unit is not 1 to 2^24.
     Unit,
     /// A factor is not 2 to 32,768.
-    Factor { channel: usize },
+    Factor {
+        channel: usize,
+    },
     /// A modulus is not 1 to 2^31.
-    Modulus { channel: usize },
+    Modulus {
+        channel: usize,
+    },
     /// Two factors have a common divisor.
-    SharedDivisor { first: usize, second: usize, divisor: u32 },
+    SharedDivisor {
+        first: usize,
+        second: usize,
+        divisor: u32,
+    },
     /// The unit times the factors up to this channel first passes 2^40.
-    Range { channel: usize },
+    Range {
+        channel: usize,
+    },
 }
 
 impl SettingRefusal {
@@ -30,10 +40,20 @@ impl SettingRefusal {
             SettingRefusal::Unit => (2, 0, 0, 0),
             SettingRefusal::Factor { channel } => (3, channel, 0, 0),
             SettingRefusal::Modulus { channel } => (4, channel, 0, 0),
-            SettingRefusal::SharedDivisor { first, second, divisor } => (5, first, second as u64, divisor as u64),
+            SettingRefusal::SharedDivisor {
+                first,
+                second,
+                divisor,
+            } => (5, first, second as u64, divisor as u64),
             SettingRefusal::Range { channel } => (6, channel, 0, 0),
         };
-        Fault { code, channel, depth: 0, first, second }
+        Fault {
+            code,
+            channel,
+            depth: 0,
+            first,
+            second,
+        }
     }
 }
 
@@ -55,6 +75,12 @@ impl RemainderRefusal {
             RemainderRefusal::Position => (31, 0),
             RemainderRefusal::Channel { channel } => (23, channel),
         };
-        Fault { code, channel, depth: 0, first: 0, second: 0 }
+        Fault {
+            code,
+            channel,
+            depth: 0,
+            first: 0,
+            second: 0,
+        }
     }
 }

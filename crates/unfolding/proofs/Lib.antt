@@ -2,6 +2,9 @@ pub mod Filled
 pub mod Peeling
 pub mod Agreed
 pub mod Turning
+pub mod Fitting
+pub mod Known
+pub mod Extremes
 pub mod Robustness
 pub mod Arcs
 pub mod Covers

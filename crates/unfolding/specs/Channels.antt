@@ -1,8 +1,9 @@
 -- Numbers that go by channel: lists, sums, the greatest and the least. Assumes nothing.
 use mathlib.Core.Path.{_≡_}
 use mathlib.Core.List.{List, map}
-use Prim.Native.Nat.{ℕ, zero, suc, _<_}
-use lib.IntN.{ℤ, pos, _+ℤ_}
+use Prim.Native.Nat.{ℕ, zero, suc, _<_, _^_}
+use lib.ListN.{length, getD}
+use lib.IntN.{ℤ, pos, _+ℤ_, negℤ}
 use lib.Signed.{_≤ℤ_, _<ℤ_}
 use Rattle.std.specs.Iters.{counting}
 
@@ -28,3 +29,7 @@ pub record Least-at (n : ℕ) (f : ℕ → ℤ) (x : ℤ) (k : ℕ) : Type 0 whe
   pub gives : f k ≡ x
   pub least : (i : ℕ) → i < n → x ≤ℤ f i
   pub lowest : (i : ℕ) → i < k → x <ℤ f i
+
+-- no number of the list is beyond 2^42 either way
+abbrev pub Moderate : List ℤ → Type 0
+Moderate xs = (k : ℕ) → k < length xs → (negℤ (pos (2 ^ 42)) ≤ℤ getD xs k (pos 0)) × (getD xs k (pos 0) ≤ℤ pos (2 ^ 42))

@@ -1,6 +1,8 @@
 pub mod Channels
 pub mod Digits
+pub mod Ends
 pub mod Folds
+pub mod Folded
 pub mod Robust
 pub mod Brackets
 pub mod Refusals

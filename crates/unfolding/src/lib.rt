@@ -1,5 +1,7 @@
 // Unfolding: from one reading of each channel to folding numbers, bracket and mean.
 mod digits;
+mod ends;
+mod folding;
 mod kept;
 mod quotients;
 mod refusals;

@@ -1,0 +1,39 @@
+// The ends of a bracket before reduction, and the channels that give them.
+ghost use Prim.Native.Nat.{ℕ, _<_, _≤_, _^_};
+ghost use lib.IntN.{ℤ, pos, _+ℤ_, _-ℤ_, negℤ};
+ghost use lib.ListN.{length, getD};
+ghost use lib.Signed.{_≤ℤ_};
+ghost use mathlib.Core.Path.{_≡_};
+ghost use Rattle.unfolding.specs.Channels.{Greatest-at, Least-at, Moderate};
+ghost use Rattle.unfolding.specs.Ends.{begins-at, ends-at};
+
+// The lowest number that a reading allows where it is unfolded.
+fn begins(unfolded: i64, bound: u32) -> i64
+    requires { ⌜ negℤ (pos (2 ^ 42)) ≤ℤ unfolded ⌝ ∗ ⌜ unfolded ≤ℤ pos (2 ^ 42) ⌝ }
+    ensures { λ r. ⌜ r ≡ unfolded -ℤ pos bound ⌝ }
+{
+    unfolded - bound as i64
+}
+
+// The highest one.
+fn reaches(unfolded: i64, bound: u32) -> i64
+    requires { ⌜ negℤ (pos (2 ^ 42)) ≤ℤ unfolded ⌝ ∗ ⌜ unfolded ≤ℤ pos (2 ^ 42) ⌝ }
+    ensures { λ r. ⌜ r ≡ unfolded +ℤ pos bound ⌝ }
+{
+    unfolded + bound as i64
+}
+
+/// The greatest lower end and the least upper end: `lo` and `hi`.
+pub(crate) fn ends(unfolded: &[i64], bounds: &[u32]) -> (i64, i64)
+    requires { ⌜ 1 ≤ length (now unfolded) ⌝ ∗ ⌜ length (now bounds) ≡ length (now unfolded) ⌝ ∗ ⌜ Moderate (now unfolded) ⌝ }
+    ensures lo { λ r. ⌜ ((k : ℕ) × Greatest-at (length (now (unfolded .entry))) (begins-at (now (unfolded .entry)) (now (bounds .entry))) (r .0) k) ⌝ }
+    ensures hi { λ r. ⌜ ((k : ℕ) × Least-at (length (now (unfolded .entry))) (ends-at (now (unfolded .entry)) (now (bounds .entry))) (r .1) k) ⌝ }
+{
+    let mut lo = begins(unfolded[0], bounds[0]);
+    let mut hi = reaches(unfolded[0], bounds[0]);
+    for k in 1..unfolded.len() {
+        lo = lo.max(begins(unfolded[k], bounds[k]));
+        hi = hi.min(reaches(unfolded[k], bounds[k]));
+    }
+    (lo, hi)
+}
