@@ -52,6 +52,7 @@ impl Desk {
     /// Before the first line.
     pub fn new(heap: Global) -> Desk
         ensures heading { λ r. ⌜ (r .heading .note ≡ false) × (r .heading .moduli ≡ false) × (r .heading .bounds ≡ false) ⌝ }
+        ensures lists { λ r. ⌜ (vec-items (r .moduli) ≡ []) × (vec-items (r .bounds) ≡ []) ⌝ }
         ensures setting { λ r. ⌜ r .setting ≡ None ⌝ }
     {
         Desk {

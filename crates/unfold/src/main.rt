@@ -1,4 +1,5 @@
 // unfold: reads a table on standard input and prints, for each row, what it unfolds to or why it is refused.
+use std::alloc::Global;
 use std::env;
 use std::error::AnyError;
 use std::io::BufRead;
@@ -20,42 +21,36 @@ or why it is refused, as
 A refused setting is printed alone. Bad text ends the program with status 1.
 ";
 
-/// The text that a refused line is reported by.
-fn at_line(rt: &LibcRuntime, number: u64, bad: BadText) -> AnyError {
-    match format!(rt.alloc(), "line {number}: {bad}") {
+/// The report of a line with bad text.
+fn at_line(heap: Global, number: u64, bad: BadText) -> AnyError {
+    match format!(heap, "line {number}: {bad}") {
         Ok(text) => text.into(),
         Err(e) => e.into(),
     }
 }
 
-fn read_table(rt: &LibcRuntime) -> Result<(), AnyError> {
-    let heap = rt.alloc();
-    let mut out = BufWriter::new(rt.stdout());
+/// Reads a table line by line, and writes a line for each row, or for a refused setting alone.
+fn read_table<B: BufRead + Drop, W: Write>(heap: Global, input: B, out: &mut W) -> Result<(), AnyError> {
     let mut desk = Desk::new(heap);
     let mut number: u64 = 1;
-    for line in BufReader::new(rt.stdin()).split(heap, b'\n') {
+    for line in input.split(heap, b'\n') {
         let reply = match desk.line(line?.as_slice()) {
             Ok(reply) => reply,
-            Err(bad) => {
-                out.flush()?;
-                return Err(at_line(rt, number, bad));
-            }
+            Err(bad) => return Err(at_line(heap, number, bad)),
         };
         match reply {
             Reply::Nothing => {}
             Reply::Row(row) => writeln!(out, "{}", row_line(heap, row)?)?,
             Reply::Refused(refusal) => {
                 writeln!(out, "{}", refusal_line(heap, refusal.fault())?)?;
-                out.flush()?;
                 return Ok(());
             }
         }
         number = number.saturating_add(1);
     }
-    out.flush()?;
     match desk.end() {
         Ok(()) => Ok(()),
-        Err(bad) => Err(at_line(rt, number, bad)),
+        Err(bad) => Err(at_line(heap, number, bad)),
     }
 }
 
@@ -63,7 +58,12 @@ fn run(rt: &LibcRuntime) -> Result<(), AnyError> {
     let mut args = env::args(rt)?;
     let _ = args.next();
     match args.next() {
-        None => read_table(rt),
+        None => {
+            let mut out = BufWriter::new(rt.stdout());
+            let ended = read_table(rt.alloc(), BufReader::new(rt.stdin()), &mut out);
+            out.flush()?;
+            ended
+        }
         Some(arg) if arg.as_str() == "--help" => {
             rt.print(USAGE)?;
             Ok(())
@@ -78,4 +78,41 @@ fn main(rt: LibcRuntime) -> Result<(), AnyError> {
         eprintln!(rt, "unfold: {e}")?;
     }
     ended
+}
+
+#[cfg(test)]
+mod tests {
+    use super::*;
+    use std::test::*;
+
+    // What a table prints, and what is reported of it.
+    fn outcome(heap: Global, table: &[u8]) -> Result<(Vec<u8>, String), Fail> {
+        let mut out = Vec::new(heap);
+        let told = match read_table(heap, table, &mut out) {
+            Ok(()) => String::new(heap),
+            Err(e) => e.to_string(heap)?,
+        };
+        Ok((out, told))
+    }
+
+    #[test]
+    fn rows_before_bad_text_are_printed(rt: LibcRuntime) -> Result<(), Fail> {
+        let (out, told) = outcome(rt.alloc(), b"moduli 30 40 50\nbounds 2 2 2\n19 36 37\n19 x 37\n19 36 37\n")?;
+        check_eq(out.as_slice(), b"folds 14 10 8 unfolded 439 436 437 start 437 count 2 mean 437\n".as_slice())?;
+        check_eq(told.as_str(), "line 4: word 2 is no number")
+    }
+
+    #[test]
+    fn a_refused_setting_stands_alone(rt: LibcRuntime) -> Result<(), Fail> {
+        let (out, told) = outcome(rt.alloc(), b"moduli 30 60\nbounds 2 2\n1 x\n")?;
+        check_eq(out.as_slice(), b"refused 3 channel 0 depth 0\n".as_slice())?;
+        check_eq(told.as_str(), "")
+    }
+
+    #[test]
+    fn the_end_counts_one_line_more(rt: LibcRuntime) -> Result<(), Fail> {
+        let (out, told) = outcome(rt.alloc(), b"# nothing\nmoduli 30 40 50")?;
+        check_eq(out.len(), 0)?;
+        check_eq(told.as_str(), "line 3: no bounds line")
+    }
 }
