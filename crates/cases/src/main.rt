@@ -73,19 +73,28 @@ fn bad_text(heap: Global, line: u64, bad: BadText) -> Result<String, AllocError>
 }
 
 /// A line of a table.
-fn table_line(heap: Global, desk: &mut Desk, line: u64, text: &[u8]) -> Result<Outcome, AllocError> {
+fn table_line(
+    heap: Global,
+    desk: &mut Desk,
+    line: u64,
+    text: &[u8],
+) -> Result<Outcome, AllocError> {
     let reply = match desk.line(text) {
         Ok(reply) => reply,
         Err(bad) => return Ok(Outcome::Ends(bad_text(heap, line, bad)?)),
     };
-    Ok(match reply {
-        Reply::Nothing => Outcome::Silent,
-        Reply::Refused(refusal) => Outcome::Ends(refusal_record(heap, refusal.fault())?),
-        Reply::Row(row) => Outcome::Says(match row {
-            Ok(found) => unfolding_line(heap, &found)?,
-            Err(refusal) => refusal_record(heap, refusal.fault())?,
-        }),
-    })
+    Ok(
+        match reply {
+            Reply::Nothing => Outcome::Silent,
+            Reply::Refused(refusal) => Outcome::Ends(refusal_record(heap, refusal.fault())?),
+            Reply::Row(row) => Outcome::Says(
+                match row {
+                    Ok(found) => unfolding_line(heap, &found)?,
+                    Err(refusal) => refusal_record(heap, refusal.fault())?,
+                },
+            ),
+        },
+    )
 }
 
 /// The number that the first word writes, and what stands after it.
@@ -108,7 +117,11 @@ fn read_unit(text: &[u8], factors: &mut Vec<u32>) -> Option<u32> {
         factors.push(factor).ok()?;
         rest = after;
     }
-    if first_word(rest).is_none() { Some(unit) } else { None }
+    if first_word(rest).is_none() {
+        Some(unit)
+    } else {
+        None
+    }
 }
 
 /// The position and channel of a line `remainder N K`.
@@ -131,10 +144,16 @@ fn read_remainder(text: &[u8]) -> Option<(u64, usize)> {
 fn unit_line(heap: Global, text: &[u8]) -> Result<(Stage, Outcome), AllocError> {
     let mut factors = Vec::new(heap);
     let Some(unit) = read_unit(text, &mut factors) else {
-        return Ok((Stage::Done, Outcome::Ends(String::from_str(heap, "bad case")?)));
+        return Ok((
+            Stage::Done,
+            Outcome::Ends(String::from_str(heap, "bad case")?),
+        ));
     };
     match Setting::new(unit, factors.as_slice()) {
-        Err(refusal) => Ok((Stage::Done, Outcome::Ends(refusal_record(heap, refusal.fault())?))),
+        Err(refusal) => Ok((
+            Stage::Done,
+            Outcome::Ends(refusal_record(heap, refusal.fault())?),
+        )),
         Ok(setting) => {
             let range = setting.range();
             let moduli = Spaced(setting.moduli());
@@ -149,10 +168,12 @@ fn remainder_line(heap: Global, setting: &Setting, text: &[u8]) -> Result<Outcom
     let Some((position, channel)) = read_remainder(text) else {
         return Ok(Outcome::Ends(String::from_str(heap, "bad case")?));
     };
-    Ok(Outcome::Says(match setting.remainder(position, channel) {
-        Ok(rest) => format!(heap, "remainder {rest}")?,
-        Err(refusal) => refusal_record(heap, refusal.fault())?,
-    }))
+    Ok(Outcome::Says(
+        match setting.remainder(position, channel) {
+            Ok(rest) => format!(heap, "remainder {rest}")?,
+            Err(refusal) => refusal_record(heap, refusal.fault())?,
+        },
+    ))
 }
 
 /// A case as it is read.
@@ -165,7 +186,11 @@ struct Case {
 
 impl Case {
     fn new(heap: Global) -> Case {
-        Case { stage: Stage::Fresh, desk: Desk::new(heap), lines: 0 }
+        Case {
+            stage: Stage::Fresh,
+            desk: Desk::new(heap),
+            lines: 0,
+        }
     }
 
     /// What the next line of the case comes to.
@@ -195,7 +220,9 @@ impl Case {
     /// What the end of the case comes to.
     fn end(&self, heap: Global) -> Result<Outcome, AllocError> {
         match (self.stage, self.desk.end()) {
-            (Stage::Fresh | Stage::Table, Err(bad)) => Ok(Outcome::Ends(bad_text(heap, self.lines.saturating_add(1), bad)?)),
+            (Stage::Fresh | Stage::Table, Err(bad)) => Ok(Outcome::Ends(
+                bad_text(heap, self.lines.saturating_add(1), bad)?,
+            )),
             _ => Ok(Outcome::Silent),
         }
     }

@@ -33,7 +33,12 @@ impl fmt::Display for Spaced<'_> as SpacedDisplay {
 pub fn refusal_line(heap: Global, fault: Fault) -> Result<String, AllocError>
     ensures { λ r. ⌜ made r (λ s. string-bytes s ≡ refusalLine fault) ⌝ }
 {
-    let Fault { code, channel, depth, .. } = fault;
+    let Fault {
+        code,
+        channel,
+        depth,
+        ..
+    } = fault;
     format!(heap, "refused {code} channel {channel} depth {depth}")
 }
 
@@ -41,24 +46,50 @@ pub fn refusal_line(heap: Global, fault: Fault) -> Result<String, AllocError>
 pub fn refusal_record(heap: Global, fault: Fault) -> Result<String, AllocError>
     ensures { λ r. ⌜ made r (λ s. string-bytes s ≡ refusalRecord fault) ⌝ }
 {
-    let Fault { code, channel, depth, first, second } = fault;
-    format!(heap, "refused {code} channel {channel} depth {depth} figures {first} {second}")
+    let Fault {
+        code,
+        channel,
+        depth,
+        first,
+        second,
+    } = fault;
+    format!(
+        heap,
+        "refused {code} channel {channel} depth {depth} figures {first} {second}"
+    )
 }
 
 /// The line of an unfolding with these parts.
-fn parts_line(heap: Global, folds: &[i64], unfolded: &[i64], start: u64, count: u64, mean: u64) -> Result<String, AllocError>
+fn parts_line(
+    heap: Global,
+    folds: &[i64],
+    unfolded: &[i64],
+    start: u64,
+    count: u64,
+    mean: u64,
+) -> Result<String, AllocError>
     ensures { λ r. ⌜ made r (λ s. string-bytes s ≡ partsLine (now (folds .entry)) (now (unfolded .entry)) start count mean) ⌝ }
 {
     let folds = Spaced(folds);
     let unfolded = Spaced(unfolded);
-    format!(heap, "folds{folds} unfolded{unfolded} start {start} count {count} mean {mean}")
+    format!(
+        heap,
+        "folds{folds} unfolded{unfolded} start {start} count {count} mean {mean}"
+    )
 }
 
 /// An unfolding as a result line.
 pub fn unfolding_line(heap: Global, found: &Unfolding) -> Result<String, AllocError>
     ensures { λ r. ⌜ made r (λ s. string-bytes s ≡ unfoldingLine (now (found .entry))) ⌝ }
 {
-    parts_line(heap, found.folds(), found.unfolded(), found.start(), found.count(), found.mean())
+    parts_line(
+        heap,
+        found.folds(),
+        found.unfolded(),
+        found.start(),
+        found.count(),
+        found.mean(),
+    )
 }
 
 /// What a row comes to, as a result line.
@@ -72,7 +103,12 @@ pub fn row_line(heap: Global, row: Result<Unfolding, UnfoldRefusal>) -> Result<S
 }
 
 /// What a row of readings comes to in a setting with these bounds, as a result line.
-pub fn answer(heap: Global, setting: &Setting, bounds: &[u32], row: &[u32]) -> Result<String, AllocError>
+pub fn answer(
+    heap: Global,
+    setting: &Setting,
+    bounds: &[u32],
+    row: &[u32],
+) -> Result<String, AllocError>
     ensures { λ r. ⌜ made r (λ s. Answered (now (setting .entry)) (now (bounds .entry)) (now (row .entry)) (string-bytes s)) ⌝ }
 {
     row_line(heap, unfold(setting, row, bounds))

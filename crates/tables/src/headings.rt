@@ -26,7 +26,11 @@ impl Heading {
     pub fn new() -> Heading
         ensures { λ r. ⌜ (r .note ≡ false) × (r .moduli ≡ false) × (r .bounds ≡ false) ⌝ }
     {
-        Heading { note: false, moduli: false, bounds: false }
+        Heading {
+            note: false,
+            moduli: false,
+            bounds: false,
+        }
     }
 
     /// Whether both lines were seen that stand before the rows.
@@ -82,8 +86,14 @@ impl Heading {
     {
         match part {
             Part::Note => Heading { note: true, ..self },
-            Part::Moduli => Heading { moduli: true, ..self },
-            Part::Bounds => Heading { bounds: true, ..self },
+            Part::Moduli => Heading {
+                moduli: true,
+                ..self
+            },
+            Part::Bounds => Heading {
+                bounds: true,
+                ..self
+            },
             Part::Row | Part::Passed => self,
         }
     }

@@ -29,7 +29,11 @@ fn number_at(word: &[u8], place: usize, dark: bool) -> Result<u32, BadText>
     ensures { λ r. ⌜ r ≡ numberAt dark place (now (word .entry)) ⌝ }
 {
     if word == b"-" {
-        return if dark { Ok(DARK) } else { Err(BadText::Dash { word: place }) };
+        return if dark {
+            Ok(DARK)
+        } else {
+            Err(BadText::Dash { word: place })
+        };
     }
     match number(word) {
         Ok(n) => Ok(n),
@@ -38,7 +42,12 @@ fn number_at(word: &[u8], place: usize, dark: bool) -> Result<u32, BadText>
 }
 
 /// Fills `numbers` with the numbers of a text that stands after so many words of its line.
-pub fn read_numbers(text: &[u8], before: usize, dark: bool, numbers: &mut Vec<u32>) -> Result<(), BadText>
+pub fn read_numbers(
+    text: &[u8],
+    before: usize,
+    dark: bool,
+    numbers: &mut Vec<u32>,
+) -> Result<(), BadText>
     requires { ⌜ before + length (now text) < 2 ^ 64 ⌝ }
     ensures { λ r. ⌜ Filled (vec-cap (now (numbers .entry))) (words (now (text .entry))) (numbersFrom dark before (words (now (text .entry)))) r (vec-items (now (numbers .exit))) ⌝ }
 {

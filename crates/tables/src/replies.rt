@@ -32,7 +32,11 @@ pub enum Reply {
 fn made(heading: &Heading, moduli: &[u32]) -> Option<Result<Setting, SettingRefusal>>
     ensures { λ r. ⌜ Ready (now (heading .entry)) (now (moduli .entry)) r ⌝ }
 {
-    if heading.is_complete() { Some(Setting::from_moduli(moduli)) } else { None }
+    if heading.is_complete() {
+        Some(Setting::from_moduli(moduli))
+    } else {
+        None
+    }
 }
 
 /// What a heading line comes to after which the setting is this.
@@ -86,7 +90,11 @@ impl Desk {
         match self.setting {
             None => unreachable(),
             Some(made) => match made {
-                Ok(setting) => Reply::Row(unfold(&setting, self.numbers.as_slice(), self.bounds.as_slice())),
+                Ok(setting) => Reply::Row(unfold(
+                    &setting,
+                    self.numbers.as_slice(),
+                    self.bounds.as_slice(),
+                )),
                 Err(refusal) => Reply::Refused(refusal),
             },
         }

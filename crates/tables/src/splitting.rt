@@ -31,5 +31,9 @@ pub fn first_word(text: &[u8]) -> Option<(&[u8], &[u8])>
 {
     let (_, rest) = text.split_at(front(text, true));
     let (word, after) = rest.split_at(front(rest, false));
-    if word.is_empty() { None } else { Some((word, after)) }
+    if word.is_empty() {
+        None
+    } else {
+        Some((word, after))
+    }
 }

@@ -30,7 +30,11 @@ fn at_line(heap: Global, number: u64, bad: BadText) -> AnyError {
 }
 
 /// Reads a table line by line, and writes a line for each row, or for a refused setting alone.
-fn read_table<B: BufRead + Drop, W: Write>(heap: Global, input: B, out: &mut W) -> Result<(), AnyError> {
+fn read_table<B: BufRead + Drop, W: Write>(
+    heap: Global,
+    input: B,
+    out: &mut W,
+) -> Result<(), AnyError> {
     let mut desk = Desk::new(heap);
     let mut number: u64 = 1;
     for line in input.split(heap, b'\n') {
@@ -97,8 +101,14 @@ mod tests {
 
     #[test]
     fn rows_before_bad_text_are_printed(rt: LibcRuntime) -> Result<(), Fail> {
-        let (out, told) = outcome(rt.alloc(), b"moduli 30 40 50\nbounds 2 2 2\n19 36 37\n19 x 37\n19 36 37\n")?;
-        check_eq(out.as_slice(), b"folds 14 10 8 unfolded 439 436 437 start 437 count 2 mean 437\n".as_slice())?;
+        let (out, told) = outcome(
+            rt.alloc(),
+            b"moduli 30 40 50\nbounds 2 2 2\n19 36 37\n19 x 37\n19 36 37\n",
+        )?;
+        check_eq(
+            out.as_slice(),
+            b"folds 14 10 8 unfolded 439 436 437 start 437 count 2 mean 437\n".as_slice(),
+        )?;
         check_eq(told.as_str(), "line 4: word 2 is no number")
     }
 

@@ -15,11 +15,10 @@ returns-then-not-is-ascii-digit c =
     record { value = is; reads-back = reads-back is }
 
 pub loop-b-again : need.loop-b-again
-loop-b-again c =
-    (
-      digits-more 10 _ (c .loop-b .b-index) (c .loop-b-test .taken) (c .loop-b .inv .0) (c .if-not-is-ascii-digit .ensures tt .bound),
-      c .min-n .ensures ∙ rw (c .from .ensures) (capped-more _ _ _ (c .loop-b-test .taken) (c .if-not-is-ascii-digit .ensures tt .cases) (c .loop-b .inv .1)),
-    )
+loop-b-again c = (
+  digits-more 10 _ (c .loop-b .b-index) (c .loop-b-test .taken) (c .loop-b .inv .0) (c .if-not-is-ascii-digit .ensures tt .bound),
+  c .min-n .ensures ∙ rw (c .from .ensures) (capped-more _ _ _ (c .loop-b-test .taken) (c .if-not-is-ascii-digit .ensures tt .cases) (c .loop-b .inv .1)),
+)
 
 pub returns-then-is-empty : need.returns-then-is-empty
 returns-then-is-empty c =
