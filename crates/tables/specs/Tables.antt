@@ -51,3 +51,33 @@ lineIn h line = andThen (allowed h (partOf line)) (numbersOf (partOf line) (word
 abbrev pub Taken : Heading → List ℕ → ℕ → Result Part BadText → List ℕ → Heading → Type 0
 Taken h line room (Ok p) ns h′ = (p ≡ partOf line) × (lineIn h line ≡ Ok ns) × (h′ ≡ seenAfter p h)
 Taken h line room (Err e) ns h′ = ((lineIn h line ≡ Err e) ⊎ NoRoom room (words line) e) × (ns ≡ []) × (h′ ≡ h)
+
+abbrev pub isNote : Part → Bool
+isNote Note = true
+isNote Passed = false
+isNote Moduli = false
+isNote Bounds = false
+isNote Row = false
+
+abbrev pub isModuli : Part → Bool
+isModuli Moduli = true
+isModuli Passed = false
+isModuli Note = false
+isModuli Bounds = false
+isModuli Row = false
+
+abbrev pub isBounds : Part → Bool
+isBounds Bounds = true
+isBounds Passed = false
+isBounds Note = false
+isBounds Moduli = false
+isBounds Row = false
+
+-- whether one of the lines is such a part
+abbrev pub anyLine : (Part → Bool) → List (List ℕ) → Bool
+anyLine test [] = false
+anyLine test (line ∷ lines) = test (partOf line) || anyLine test lines
+
+-- what was seen in these lines
+abbrev pub seenIn : List (List ℕ) → Heading
+seenIn lines = record { note = anyLine isNote lines; moduli = anyLine isModuli lines; bounds = anyLine isBounds lines }

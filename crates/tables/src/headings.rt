@@ -1,11 +1,14 @@
 // A table read line by line: what was seen so far, and what each line is after that.
-ghost use mathlib.Core.Bool.{false, _&&_};
+ghost use Prim.Native.Nat.{ℕ};
+ghost use mathlib.Core.Bool.{_&&_};
+ghost use mathlib.Core.List.{List, [], _∷_};
 ghost use mathlib.Core.Path.{_≡_};
+ghost use Rattle.std.specs.Vec.{made};
 ghost use Rattle.std.specs.Of.Vec.{vec-cap, vec-items};
 ghost use Rattle.tables.specs.Numbers.{Filled};
 ghost use Rattle.tables.specs.declared.parts.Part.the-variants.{Row};
 ghost use Rattle.tables.specs.Spelling.{ReadsBack};
-ghost use Rattle.tables.specs.Tables.{allowed, seenAfter, numbersOf, Taken};
+ghost use Rattle.tables.specs.Tables.{allowed, numbersOf, seenAfter, seenIn, Taken};
 ghost use Rattle.tables.specs.Words.{words};
 use crate::errors::BadText;
 use crate::parts::Part;
@@ -24,7 +27,7 @@ pub struct Heading {
 impl Heading {
     /// Nothing was seen yet.
     pub fn new() -> Heading
-        ensures { λ r. ⌜ (r .note ≡ false) × (r .moduli ≡ false) × (r .bounds ≡ false) ⌝ }
+        ensures { λ r. ⌜ r ≡ seenIn [] ⌝ }
     {
         Heading {
             note: false,
@@ -52,6 +55,7 @@ impl Heading {
     /// The law says that what is written with single spaces is read back.
     pub fn line(&mut self, text: &[u8], numbers: &mut Vec<u32>) -> Result<Part, BadText>
         ensures law { λ _. ⌜ ReadsBack ⌝ }
+        ensures seen { λ r. ⌜ ((past : List (List ℕ)) → now (self .entry) ≡ seenIn past → made r (λ _. now (self .exit) ≡ seenIn (now (text .entry) ∷ past))) ⌝ }
         ensures taken { λ r. ⌜ Taken (now (self .entry)) (now (text .entry)) (vec-cap (now (numbers .entry))) r (vec-items (now (numbers .exit))) (now (self .exit)) ⌝ }
     {
         numbers.clear();

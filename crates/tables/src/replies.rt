@@ -7,7 +7,7 @@ ghost use Rattle.std.specs.declared.option.Option.the-variants.{None};
 ghost use Rattle.tables.specs.Desks.{Answers, Replied, toldOf};
 ghost use Rattle.tables.specs.Ready.{Ready, complete};
 ghost use Rattle.tables.specs.declared.parts.Part.the-variants.{Row};
-ghost use Rattle.tables.specs.Tables.{allowed};
+ghost use Rattle.tables.specs.Tables.{allowed, seenIn};
 use crate::Desk;
 use crate::errors::BadText;
 use crate::headings::Heading;
@@ -55,7 +55,7 @@ fn told(setting: Option<Result<Setting, SettingRefusal>>) -> Reply
 impl Desk {
     /// Before the first line.
     pub fn new(heap: Global) -> Desk
-        ensures heading { λ r. ⌜ (r .heading .note ≡ false) × (r .heading .moduli ≡ false) × (r .heading .bounds ≡ false) ⌝ }
+        ensures heading { λ r. ⌜ r .heading ≡ seenIn [] ⌝ }
         ensures lists { λ r. ⌜ (vec-items (r .moduli) ≡ []) × (vec-items (r .bounds) ≡ []) ⌝ }
         ensures setting { λ r. ⌜ r .setting ≡ None ⌝ }
     {

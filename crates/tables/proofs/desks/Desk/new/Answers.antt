@@ -4,4 +4,4 @@ use Rattle.tables.proofs.Headed.{none-seen}
 use Rattle.tables.proofs.desks.Desk.new.Needs as need
 
 pub ghost-result : need.ghost-result
-ghost-result c = (none-seen (c .new .result) (c .new .ensures .1), (∣ tt ∣₁, tt))
+ghost-result c = (none-seen (c .new .result) (c .new .ensures), (∣ tt ∣₁, tt))
