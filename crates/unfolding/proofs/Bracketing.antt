@@ -20,7 +20,7 @@ use Rattle.unfolding.specs.Brackets.{Allowed, In-bracket, Exact, No-position, 
 use Rattle.unfolding.proofs.Agreed.{factors-pos}
 use Rattle.unfolding.proofs.Arcs.{Between, to-between, from-between, near-round}
 use Rattle.unfolding.proofs.Covers.{Covers, from-cover, to-cover, range-pos}
-use Rattle.unfolding.proofs.Means.{total-low, total-high, mean-low, mean-high}
+use Rattle.unfolding.proofs.Averages.{total-low, total-high, mean-low, mean-high}
 
 le-trans : (a b c : ℤ) → a ≤ℤ b → b ≤ℤ c → a ≤ℤ c
 le-trans a b c h l = omega (arith, lin)

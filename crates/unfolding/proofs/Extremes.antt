@@ -59,3 +59,26 @@ least-more n f x y m e v (i, g) = go (decided y x)
     go (inr h) =
         let is : m ≡ y = v ∙ omega (arith, lin, clamps) in
         (n, rw is (record { within = omega arith; gives = sym e; least = below-more _ _ (λ k l. through y x (f k) (weaker y x h) (g .least k l)) (subst (λ z. y ≤ℤ z) e (same y)); lowest = λ k l. omega (arith, lin, g .least k l, h) }))
+
+-- the first channel that gives the extreme is the lowest one
+pub greatest-first : (n : ℕ) (f : ℕ → ℤ) (x : ℤ) (k : ℕ) → ((i : ℕ) × Greatest-at n f x i) → k < n → f k ≡ x → ((i : ℕ) → i < k → f i ≡ x → ⊥) → Greatest-at n f x k
+greatest-first n f x k (i, g) h e none = record {
+    within = h; gives = e; most = g .most; lowest = λ j l. below (f j) x (g .most j (omega arith)) (none j l) }
+  where
+    below : (a b : ℤ) → a ≤ℤ b → (a ≡ b → ⊥) → a <ℤ b
+    below a b h apart = go (decided a b)
+      where
+        go : (b ≤ℤ a) ⊎ (a <ℤ b) → a <ℤ b
+        go (inl l) = absurd (apart (omega (arith, lin)))
+        go (inr l) = l
+
+pub least-first : (n : ℕ) (f : ℕ → ℤ) (x : ℤ) (k : ℕ) → ((i : ℕ) × Least-at n f x i) → k < n → f k ≡ x → ((i : ℕ) → i < k → f i ≡ x → ⊥) → Least-at n f x k
+least-first n f x k (i, g) h e none = record {
+    within = h; gives = e; least = g .least; lowest = λ j l. above x (f j) (g .least j (omega arith)) (none j l) }
+  where
+    above : (a b : ℤ) → a ≤ℤ b → (b ≡ a → ⊥) → a <ℤ b
+    above a b h apart = go (decided a b)
+      where
+        go : (b ≤ℤ a) ⊎ (a <ℤ b) → a <ℤ b
+        go (inl l) = absurd (apart (omega (arith, lin)))
+        go (inr l) = l

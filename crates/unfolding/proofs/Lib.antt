@@ -8,5 +8,5 @@ pub mod Extremes
 pub mod Robustness
 pub mod Arcs
 pub mod Covers
-pub mod Means
+pub mod Averages
 pub mod Bracketing

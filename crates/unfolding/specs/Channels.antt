@@ -6,6 +6,7 @@ use lib.ListN.{length, getD}
 use lib.IntN.{ℤ, pos, _+ℤ_, negℤ}
 use lib.Signed.{_≤ℤ_, _<ℤ_}
 use Rattle.std.specs.Iters.{counting}
+use Rattle.residues.specs.Circle.{_modulo_}
 
 -- f of channels 0 to n − 1, in a list
 abbrev pub by-channel : {X : Type 0} → (n : ℕ) → (ℕ → X) → List X
@@ -33,3 +34,7 @@ pub record Least-at (n : ℕ) (f : ℕ → ℤ) (x : ℤ) (k : ℕ) : Type 0 whe
 -- no number of the list is beyond 2^42 either way
 abbrev pub Moderate : List ℤ → Type 0
 Moderate xs = (k : ℕ) → k < length xs → (negℤ (pos (2 ^ 42)) ≤ℤ getD xs k (pos 0)) × (getD xs k (pos 0) ≤ℤ pos (2 ^ 42))
+
+-- the position of a range of R that a whole number is
+abbrev pub position-of : (R : ℕ) → ℤ → ℕ
+position-of R z = z modulo R

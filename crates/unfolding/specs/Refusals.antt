@@ -5,6 +5,8 @@ use Prim.Native.Nat.{ℕ, _*_, _≤_, _<_}
 use lib.ListN.{length, getD}
 use lib.IntN.{ℤ, pos, _-ℤ_}
 use lib.Signed.{_<ℤ_}
+use Rattle.std.specs.declared.result.Result.{Result}
+use Rattle.std.specs.declared.result.Result.the-variants.{Ok, Err}
 use Rattle.records.specs.declared.faults.Fault.{Fault}
 use Rattle.settings.specs.Settings.{modulus-at, range-of}
 use Rattle.unfolding.specs.declared.refusals.UnfoldRefusal.{UnfoldRefusal}
@@ -38,10 +40,14 @@ pub record Paired (gs rs ts : List ℕ) : Type 0 where
 abbrev First-at : (u : ℕ) (gs rs ts : List ℕ) (k : ℕ) → Type 0
 First-at u gs rs ts k = Paired gs rs ts × (k < length gs) × ((i : ℕ) → i < k → Fine-at u gs rs ts i)
 
+-- every check of the readings and bounds passes
+pub record All-fine (u : ℕ) (gs rs ts : List ℕ) : Type 0 where
+  pub paired : Paired gs rs ts
+  pub fine : (k : ℕ) → k < length gs → Fine-at u gs rs ts k
+
 -- no position is allowed: lo exceeds hi by x, and k and l are the lowest channels that give them
 pub record Contradicts (u : ℕ) (gs rs ts : List ℕ) (k x l : ℕ) : Type 0 where
-  pub paired : Paired gs rs ts
-  pub fine : (i : ℕ) → i < length gs → Fine-at u gs rs ts i
+  pub checked : All-fine u gs rs ts
   pub n : ℕ
   pub folds-well : Folds-well u gs rs n
   pub lo : ℤ
@@ -59,3 +65,8 @@ Unfold-refused u gs rs ts (Bounds c k) = (length rs ≡ length gs) × (length ts
 Unfold-refused u gs rs ts (WideBound k x m) = First-at u gs rs ts k × (u ≤ 4 * getD ts k 0) × (x ≡ 4 * getD ts k 0) × (m ≡ u)
 Unfold-refused u gs rs ts (Wild k r m) = First-at u gs rs ts k × (4 * getD ts k 0 < u) × (modulus-at u gs k ≤ getD rs k 0) × (r ≡ getD rs k 0) × (m ≡ modulus-at u gs k)
 Unfold-refused u gs rs ts (Contradictory k x l) = Contradicts u gs rs ts k x l
+
+-- what the checks answer, before anything is unfolded
+abbrev pub Checked : (u : ℕ) (gs rs ts : List ℕ) → Result (Unit {0}) UnfoldRefusal → Type 0
+Checked u gs rs ts (Ok _) = All-fine u gs rs ts
+Checked u gs rs ts (Err e) = Unfold-refused u gs rs ts e

@@ -17,7 +17,7 @@ use Rattle.unfolding.specs.Channels.{by-channel, Greatest-at, Least-at}
 use Rattle.unfolding.specs.Folds.{quotient-at, fold-at, unfolded-at, Folds-well}
 use Rattle.unfolding.specs.Robust.{Robust}
 use Rattle.unfolding.specs.Brackets.{Allowed, Exact, Mean-near, low-at, high-at, rounded-mean}
-use Rattle.unfolding.specs.Refusals.{Paired, Fine-at, Unfold-refused}
+use Rattle.unfolding.specs.Refusals.{All-fine, Unfold-refused}
 
 abbrev pub quotients-of : Unfolding → List ℤ
 quotients-of w = take (w .folding .count) (w .folding .quotients)
@@ -30,8 +30,7 @@ unfolded-of w = take (w .folding .count) (w .folding .unfolded)
 
 -- the numbers, from the readings and bounds
 pub record Unfolds (u : ℕ) (gs rs ts : List ℕ) (w : Unfolding) : Type 0 where
-  pub paired : Paired gs rs ts
-  pub fine : (k : ℕ) → k < length gs → Fine-at u gs rs ts k
+  pub checked : All-fine u gs rs ts
   pub n : ℕ
   pub quotients-are : quotients-of w ≡ by-channel (length gs) (quotient-at u rs)
   pub folds-well : Folds-well u gs rs n

@@ -37,3 +37,31 @@ pub(crate) fn ends(unfolded: &[i64], bounds: &[u32]) -> (i64, i64)
     }
     (lo, hi)
 }
+
+/// The lowest channel that begins at `lo`.
+pub(crate) fn channel_of_lo(unfolded: &[i64], bounds: &[u32], lo: i64) -> usize
+    requires { ⌜ length (now bounds) ≡ length (now unfolded) ⌝ ∗ ⌜ Moderate (now unfolded) ⌝ }
+    requires { ⌜ ((k : ℕ) × Greatest-at (length (now unfolded)) (begins-at (now unfolded) (now bounds)) lo k) ⌝ }
+    ensures { λ r. ⌜ Greatest-at (length (now (unfolded .entry))) (begins-at (now (unfolded .entry)) (now (bounds .entry))) lo r ⌝ }
+{
+    for k in 0..unfolded.len() {
+        if begins(unfolded[k], bounds[k]) == lo {
+            return k;
+        }
+    }
+    unreachable()
+}
+
+/// The lowest channel that reaches to `hi`.
+pub(crate) fn channel_of_hi(unfolded: &[i64], bounds: &[u32], hi: i64) -> usize
+    requires { ⌜ length (now bounds) ≡ length (now unfolded) ⌝ ∗ ⌜ Moderate (now unfolded) ⌝ }
+    requires { ⌜ ((k : ℕ) × Least-at (length (now unfolded)) (ends-at (now unfolded) (now bounds)) hi k) ⌝ }
+    ensures { λ r. ⌜ Least-at (length (now (unfolded .entry))) (ends-at (now (unfolded .entry)) (now (bounds .entry))) hi r ⌝ }
+{
+    for k in 0..unfolded.len() {
+        if reaches(unfolded[k], bounds[k]) == hi {
+            return k;
+        }
+    }
+    unreachable()
+}

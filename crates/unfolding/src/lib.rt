@@ -1,8 +1,10 @@
 // Unfolding: from one reading of each channel to folding numbers, bracket and mean.
+mod checks;
 mod digits;
 mod ends;
 mod folding;
 mod kept;
+mod means;
 mod quotients;
 mod refusals;
 
