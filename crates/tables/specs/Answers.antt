@@ -13,7 +13,8 @@ use Rattle.settings.specs.declared.kept.Setting.{Setting}
 use Rattle.unfolding.specs.declared.kept.Unfolding.{Unfolding}
 use Rattle.unfolding.specs.declared.refusals.UnfoldRefusal.{UnfoldRefusal}
 use Rattle.unfolding.specs.Refusals.{unfold-fault}
-use Rattle.unfolding.specs.Unfolds.{Unfold-answers, folds-of, unfolded-of}
+use Rattle.unfolding.specs.Told.{folds-of, unfolded-of}
+use Rattle.unfolding.specs.Unfolds.{Unfold-answers}
 
 -- each number after a space
 abbrev pub spacedSigned : List ℤ → List ℕ
@@ -31,7 +32,7 @@ partsLine folds unfolded start count mean =
     codes "folds" ++ (spacedSigned folds ++ (codes " unfolded" ++ (spacedSigned unfolded ++ (codes " start " ++ (decimal start ++ (codes " count " ++ (decimal count ++ (codes " mean " ++ decimal mean))))))))
 
 abbrev pub unfoldingLine : Unfolding → List ℕ
-unfoldingLine u = partsLine (folds-of u) (unfolded-of u) (u .start) (u .count) (u .mean)
+unfoldingLine u = partsLine (folds-of (u .folding)) (unfolded-of (u .folding)) (u .start) (u .count) (u .mean)
 
 abbrev pub rowLine : Result Unfolding UnfoldRefusal → List ℕ
 rowLine (Ok u) = unfoldingLine u
