@@ -6,7 +6,7 @@ use mathlib.Core.Path.{_≡_, sym, ap, _∙_}
 use mathlib.Core.List.{List, [], _∷_}
 use mathlib.Core.Logic.{_⊎_, inl, inr}
 use Rattle.settings.specs.declared.refusals.SettingRefusal.{SettingRefusal}
-use Rattle.settings.specs.Refusals.{Fails-first}
+use Rattle.settings.specs.Refusals.{Fails-first, Tells-lowest}
 
 -- what it is to pass, and to fail with a refusal: never both, and with one refusal only
 pub record Check : Type 1 where
@@ -57,7 +57,7 @@ lowest P n k l (_, before, fails) (_, before′, fails′) = go (decLt k l) (dec
 unfoldable pub each : (P : ℕ → Type 0) (n : ℕ) → (ℕ → SettingRefusal) → Check
 each P n told = record {
   Pass = (k : ℕ) → k < n → P k;
-  Fail = λ e. (k : ℕ) × (e ≡ told k) × Fails-first P n k;
+  Fail = Tells-lowest P n told;
   never-both = λ e (k, _, h) p. h .2 (p k (h .0));
   one = λ e f (k, a, h) (l, b, i). a ∙ ap told (lowest P n k l h i) ∙ sym b;
 }

@@ -14,7 +14,7 @@ use Rattle.residues.proofs.Products.{product-le}
 use Rattle.settings.specs.declared.refusals.SettingRefusal.{SettingRefusal}
 use Rattle.settings.specs.declared.refusals.SettingRefusal.the-variants.{Count, Unit, Factor, Modulus, SharedDivisor, Range}
 use Rattle.settings.specs.Settings.{Counted, Factor-fits, Modulus-fits, Range-fits, Unit-fits, range-of}
-use Rattle.settings.specs.Refusals.{Passes-first, Refuses, Shares-first}
+use Rattle.settings.specs.Refusals.{Passes-first, Refuses, Shares-first, Tells-passing, Tells-shared}
 use Rattle.settings.specs.SettingLaws.{Refused-not-accepted, One-refusal}
 use Rattle.settings.proofs.Chains.{Check, Fails-in, plain, each, fails-alone, fails-once}
 
@@ -53,7 +53,7 @@ same-shared gs j k d j′ k′ d′ h i =
 unfoldable pairs : List ℕ → Check
 pairs gs = record {
   Pass = Pairwise-coprime gs;
-  Fail = λ e. (j k d : ℕ) × (e ≡ SharedDivisor j k d) × Shares-first gs j k d;
+  Fail = Tells-shared gs;
   never-both = λ e (j, k, d, _, h) p. not-shared gs j k d h (p j k (h .in-order) (h .within));
   one = λ e f (j, k, d, a, h) (j′, k′, d′, b, i). a ∙ same-shared gs j k d j′ k′ d′ h i ∙ sym b;
 }
@@ -80,7 +80,7 @@ same-channel u gs k l positive h i = go (decLt k l) (decLt l k)
 unfoldable ranges : (u : ℕ) (gs : List ℕ) → Check
 ranges u gs = record {
   Pass = Range-fits u gs;
-  Fail = λ e. Positive gs × ((k : ℕ) × (e ≡ Range k) × Passes-first u gs k);
+  Fail = λ e. Positive gs × Tells-passing u gs e;
   never-both = λ e (positive, (k, _, h)) p.
       omega (arith, range-grows u gs (suc k) (length gs) positive (h .within), ap (range-of u) (take-length gs), h .passes);
   one = λ e f (positive, (k, a, h)) (_, (l, b, i)). a ∙ ap Range (same-channel u gs k l positive h i) ∙ sym b;

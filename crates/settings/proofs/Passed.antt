@@ -37,6 +37,11 @@ passed s few = record {
 pub modulus-kept : (s : Setting) (k : ℕ) → k < s .count → getD (s .moduli) k 0 ≡ modulus-at (unit-of s) (factors-of s) k
 modulus-kept s k h = s .«moduli_are» k h ∙ ap (λ (g : ℕ). s .unit * g) (sym (getD-take (s .count) (s .factors) k 0 h))
 
+pub modulus-pos : (s : Setting) (k : ℕ) → s .count ≤ length (s .factors) → k < s .count → 0 < getD (s .moduli) k 0
+modulus-pos s k few h =
+    let l : k < length (factors-of s) = omega (arith, length-take (s .count) (s .factors)) in
+    subst (λ (m : ℕ). 0 < m) (sym (modulus-kept s k h)) (s .«moduli_fit» k l .0)
+
 pub moduli-told : (u n : ℕ) (gs ms xs : List ℕ) → xs ≡ take n ms → n ≤ length gs → n ≤ length ms → Moduli u n gs ms → (k : ℕ) → k < length (take n gs) → getD xs k 0 ≡ u * getD (take n gs) k 0
 moduli-told u n gs ms xs e l m are k h =
     let kn : k < n = omega (arith, length-take n gs) in

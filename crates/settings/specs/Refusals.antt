@@ -32,6 +32,10 @@ remainder-fault (Channel k) = numbered 23 k 0 0
 abbrev pub Fails-first : (P : ℕ → Type 0) (n k : ℕ) → Type 0
 Fails-first P n k = (k < n) × ((i : ℕ) → i < k → P i) × (P k → ⊥)
 
+-- e tells the lowest of n channels at which P does not hold
+abbrev pub Tells-lowest : (P : ℕ → Type 0) (n : ℕ) → (ℕ → SettingRefusal) → SettingRefusal → Type 0
+Tells-lowest P n told e = (k : ℕ) × (e ≡ told k) × Fails-first P n k
+
 -- channels j and k share the divisor d, and no pair before them shares any: pairs go by the first channel, then by the second
 pub record Shares-first (gs : List ℕ) (j k d : ℕ) : Type 0 where
   pub in-order : j < k
@@ -41,11 +45,17 @@ pub record Shares-first (gs : List ℕ) (j k d : ℕ) : Type 0 where
   pub none-before : (i l : ℕ) → i < j → i < l → l < length gs → Coprime (getD gs i 0) (getD gs l 0)
   pub none-between : (l : ℕ) → j < l → l < k → Coprime (getD gs j 0) (getD gs l 0)
 
+abbrev pub Tells-shared : List ℕ → SettingRefusal → Type 0
+Tells-shared gs e = (j k d : ℕ) × (e ≡ SharedDivisor j k d) × Shares-first gs j k d
+
 -- the unit times the factors up to channel k first passes 2^40
 pub record Passes-first (u : ℕ) (gs : List ℕ) (k : ℕ) : Type 0 where
   pub within : k < length gs
   pub fits-before : range-of u (take k gs) ≤ 2 ^ 40
   pub passes : 2 ^ 40 < range-of u (take (suc k) gs)
+
+abbrev pub Tells-passing : (u : ℕ) → List ℕ → SettingRefusal → Type 0
+Tells-passing u gs e = (k : ℕ) × (e ≡ Range k) × Passes-first u gs k
 
 -- the first four checks of a unit and factors pass
 pub record Four-pass (u : ℕ) (gs : List ℕ) : Type 0 where

@@ -1,8 +1,8 @@
 // The checks that look at one number at a time.
-ghost use Prim.Native.Nat.{ℕ, _^_};
+ghost use Prim.Native.Nat.{_^_};
 ghost use lib.ListN.{getD, length};
 ghost use mathlib.Core.Path.{_≡_};
-ghost use Rattle.settings.specs.Refusals.{Fails-first};
+ghost use Rattle.settings.specs.Refusals.{Fails-first, Tells-lowest};
 ghost use Rattle.settings.specs.Settings.{Counted, Each-from-to, Factor-fits, From-to, Unit-fits};
 ghost use Rattle.std.specs.Options.{Cases as BySome};
 ghost use Rattle.std.specs.Results.{Cases};
@@ -42,7 +42,7 @@ fn first_outside(numbers: &[u32], low: u32, high: u32) -> Option<usize>
 
 /// That each factor is 2 to 32,768.
 pub(crate) fn check_factors(factors: &[u32]) -> Result<(), SettingRefusal>
-    ensures { λ r. ⌜ Cases r (λ _. Each-from-to 2 32768 (now (factors .entry))) (λ e. (k : ℕ) × (e ≡ SettingRefusal.Factor k) × Fails-first (Factor-fits (now (factors .entry))) (length (now (factors .entry))) k) ⌝ }
+    ensures { λ r. ⌜ Cases r (λ _. Each-from-to 2 32768 (now (factors .entry))) (Tells-lowest (Factor-fits (now (factors .entry))) (length (now (factors .entry))) SettingRefusal.Factor) ⌝ }
 {
     match first_outside(factors, 2, 32768) {
         Some(channel) => Err(SettingRefusal::Factor { channel }),
@@ -52,7 +52,7 @@ pub(crate) fn check_factors(factors: &[u32]) -> Result<(), SettingRefusal>
 
 /// That each modulus is 1 to 2^31.
 pub(crate) fn check_moduli(moduli: &[u32]) -> Result<(), SettingRefusal>
-    ensures { λ r. ⌜ Cases r (λ _. Each-from-to 1 (2 ^ 31) (now (moduli .entry))) (λ e. (k : ℕ) × (e ≡ SettingRefusal.Modulus k) × Fails-first (λ i. From-to 1 (2 ^ 31) (getD (now (moduli .entry)) i 0)) (length (now (moduli .entry))) k) ⌝ }
+    ensures { λ r. ⌜ Cases r (λ _. Each-from-to 1 (2 ^ 31) (now (moduli .entry))) (Tells-lowest (λ i. From-to 1 (2 ^ 31) (getD (now (moduli .entry)) i 0)) (length (now (moduli .entry))) SettingRefusal.Modulus) ⌝ }
 {
     match first_outside(moduli, 1, 1 << 31) {
         Some(channel) => Err(SettingRefusal::Modulus { channel }),

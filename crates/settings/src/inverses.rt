@@ -1,9 +1,9 @@
 // The inverses that a setting keeps, which factors that share a divisor lack.
-ghost use Prim.Native.Nat.{ℕ, _<_, _≤_, suc};
+ghost use Prim.Native.Nat.{_<_, _≤_, suc};
 ghost use lib.ListN.{length};
 ghost use mathlib.Core.Path.{_≡_};
 ghost use Rattle.residues.specs.Divisors.{Greatest};
-ghost use Rattle.settings.specs.Refusals.{Shares-first};
+ghost use Rattle.settings.specs.Refusals.{Tells-shared};
 ghost use Rattle.settings.specs.Settings.{Each-from-to};
 ghost use Rattle.settings.specs.Tables.{Inverses-made, Rows-of-eight};
 ghost use Rattle.settings.specs.Told.{Inverse};
@@ -31,7 +31,7 @@ fn invert(factors: &[u32], first: usize, inverses: &mut [[u32; 8]; 8]) -> Result
     requires rows { ⌜ Rows-of-eight (now inverses) ⌝ }
     requires made { ⌜ Inverses-made (now factors) (now inverses) first ⌝ }
     ensures rows { λ _. ⌜ Rows-of-eight (now (inverses .exit)) ⌝ }
-    ensures told { λ r. ⌜ Cases r (λ _. Inverses-made (now (factors .entry)) (now (inverses .exit)) (suc first)) (λ e. (k d : ℕ) × (e ≡ SettingRefusal.SharedDivisor first k d) × Shares-first (now (factors .entry)) first k d) ⌝ }
+    ensures told { λ r. ⌜ Cases r (λ _. Inverses-made (now (factors .entry)) (now (inverses .exit)) (suc first)) (Tells-shared (now (factors .entry))) ⌝ }
 {
     for second in first + 1..factors.len() {
         match inverse_of(factors[first], factors[second]) {
@@ -50,7 +50,7 @@ fn invert(factors: &[u32], first: usize, inverses: &mut [[u32; 8]; 8]) -> Result
 pub(crate) fn inverses_of(factors: &[u32]) -> Result<[[u32; 8]; 8], SettingRefusal>
     requires few { ⌜ length (now factors) ≤ 8 ⌝ }
     requires factors_fit { ⌜ Each-from-to 2 32768 (now factors) ⌝ }
-    ensures { λ r. ⌜ Cases r (λ table. Inverses-made (now (factors .entry)) table (length (now (factors .entry)))) (λ e. (j k d : ℕ) × (e ≡ SettingRefusal.SharedDivisor j k d) × Shares-first (now (factors .entry)) j k d) ⌝ }
+    ensures { λ r. ⌜ Cases r (λ table. Inverses-made (now (factors .entry)) table (length (now (factors .entry)))) (Tells-shared (now (factors .entry))) ⌝ }
 {
     let mut inverses = [[0; 8]; 8];
     for first in 0..factors.len() {

@@ -1,8 +1,8 @@
 // The unit times each factor and times all factors, within their limits.
-ghost use Prim.Native.Nat.{ℕ, _≤_};
+ghost use Prim.Native.Nat.{_≤_};
 ghost use lib.ListN.{length};
 ghost use mathlib.Core.Path.{_≡_};
-ghost use Rattle.settings.specs.Refusals.{Fails-first, Passes-first};
+ghost use Rattle.settings.specs.Refusals.{Tells-lowest, Tells-passing};
 ghost use Rattle.settings.specs.Settings.{Each-from-to, Modulus-fits, Range-fits, Unit-fits, range-of};
 ghost use Rattle.settings.specs.Tables.{Moduli-made};
 ghost use Rattle.std.specs.Results.{Cases};
@@ -13,7 +13,7 @@ pub(crate) fn moduli_of(unit: u32, factors: &[u32]) -> Result<[u32; 8], SettingR
     requires few { ⌜ length (now factors) ≤ 8 ⌝ }
     requires unit_fits { ⌜ Unit-fits unit ⌝ }
     requires factors_fit { ⌜ Each-from-to 2 32768 (now factors) ⌝ }
-    ensures { λ r. ⌜ Cases r (Moduli-made unit (now (factors .entry))) (λ e. (k : ℕ) × (e ≡ SettingRefusal.Modulus k) × Fails-first (Modulus-fits unit (now (factors .entry))) (length (now (factors .entry))) k) ⌝ }
+    ensures { λ r. ⌜ Cases r (Moduli-made unit (now (factors .entry))) (Tells-lowest (Modulus-fits unit (now (factors .entry))) (length (now (factors .entry))) SettingRefusal.Modulus) ⌝ }
 {
     let mut moduli = [0; 8];
     for (channel, factor) in factors.iter().enumerate() {
@@ -30,7 +30,7 @@ pub(crate) fn moduli_of(unit: u32, factors: &[u32]) -> Result<[u32; 8], SettingR
 pub(crate) fn range_from(unit: u32, factors: &[u32]) -> Result<u64, SettingRefusal>
     requires unit_fits { ⌜ Unit-fits unit ⌝ }
     requires factors_fit { ⌜ Each-from-to 2 32768 (now factors) ⌝ }
-    ensures { λ r. ⌜ Cases r (λ range. (range ≡ range-of unit (now (factors .entry))) × Range-fits unit (now (factors .entry))) (λ e. (k : ℕ) × (e ≡ SettingRefusal.Range k) × Passes-first unit (now (factors .entry)) k) ⌝ }
+    ensures { λ r. ⌜ Cases r (λ range. (range ≡ range-of unit (now (factors .entry))) × Range-fits unit (now (factors .entry))) (Tells-passing unit (now (factors .entry))) ⌝ }
 {
     let mut range = unit as u64;
     for (channel, factor) in factors.iter().enumerate() {

@@ -1,17 +1,19 @@
 -- The greatest and the least so far, with one channel more.
-use Prim.Native.Nat.{ℕ, zero, suc, _+_, _≤_, _<_}
+use Prim.Native.Nat.{ℕ, zero, suc, _+_, _^_, _≤_, _<_}
 use native.Mathlib.Omega.{arith}
 use mathlib.Core.Path.{_≡_, refl, sym, ap, subst, _∙_}
 use mathlib.Core.Bool.{Bool, true, false, cond}
 use mathlib.Core.Logic.{_⊎_, inl, inr}
 use borrow.Author.Count.{below-more}
-use borrow.Author.Differences.{lt-true, lt-false}
+use borrow.Author.Differences.{ints, lt-true, lt-false}
+use mir.Syntax.{w64}
+use mir.Val.{SFits, toZ, ofZ}
 use lib.IntN.{ℤ, pos, _+ℤ_, _-ℤ_, negℤ}
 use lib.Signed.{_≤ℤ_, _<ℤ_, ltZ}
 use Rattle.std.specs.Numbers.{maxZ, minZ}
-use Rattle.std.proofs.shelf.Signed.{clamps}
+use Rattle.std.proofs.shelf.Signed.{clamps, toZ-ofZ}
 use Rattle.residues.proofs.Ring.{lin}
-use Rattle.unfolding.specs.Channels.{Greatest-at, Least-at}
+use Rattle.unfolding.specs.Channels.{Greatest-at, Least-at, Small}
 
 -- one of two numbers is less, or not
 decided : (x y : ℤ) → (y ≤ℤ x) ⊎ (x <ℤ y)
@@ -27,7 +29,7 @@ same y = omega (arith, lin)
 through : (a x y : ℤ) → a ≤ℤ x → x ≤ℤ y → a ≤ℤ y
 through a x y h l = omega (arith, lin)
 
-weaker : (x y : ℤ) → x <ℤ y → x ≤ℤ y
+pub weaker : (x y : ℤ) → x <ℤ y → x ≤ℤ y
 weaker x y h = omega (arith, lin)
 
 -- with one channel there is no choice
@@ -82,3 +84,29 @@ least-first n f x k (i, g) h e none = record {
         go : (b ≤ℤ a) ⊎ (a <ℤ b) → a <ℤ b
         go (inl l) = absurd (apart (omega (arith, lin)))
         go (inr l) = l
+
+-- the same count, told in another way
+pub greatest-of : (n m : ℕ) (f : ℕ → ℤ) (x : ℤ) → n ≡ m → ((i : ℕ) × Greatest-at n f x i) → (i : ℕ) × Greatest-at m f x i
+greatest-of n m f x e = subst (λ l. (i : ℕ) × Greatest-at l f x i) e
+
+pub least-of : (n m : ℕ) (f : ℕ → ℤ) (x : ℤ) → n ≡ m → ((i : ℕ) × Least-at n f x i) → (i : ℕ) × Least-at m f x i
+least-of n m f x e = subst (λ l. (i : ℕ) × Least-at l f x i) e
+
+-- an end of a moderate reading is small
+pub end-small : (c x : ℤ) (t : ℕ) → (negℤ (pos (2 ^ 42)) ≤ℤ c) × (c ≤ℤ pos (2 ^ 42)) → t < 2 ^ 32 → (x ≡ c -ℤ pos t) ⊎ (x ≡ c +ℤ pos t) → Small x
+end-small c x t (l, h) m (inl e) = (omega (arith, lin), omega (arith, lin))
+end-small c x t (l, h) m (inr e) = (omega (arith, lin), omega (arith, lin))
+
+pub small-fits : (z : ℤ) → Small z → SFits w64 z
+small-fits z (l, h) = omega (arith, ints)
+
+-- the machine's test of two small numbers
+pub less-read : (a b : ℤ) → Small a → Small b → ltZ (toZ w64 (ofZ w64 a)) (toZ w64 (ofZ w64 b)) ≡ true → a <ℤ b
+less-read a b s t e =
+    let f : ltZ a b ≡ true = ap (λ z. ltZ z b) (sym (toZ-ofZ w64 a (small-fits a s))) ∙ ap (ltZ (toZ w64 (ofZ w64 a))) (sym (toZ-ofZ w64 b (small-fits b t))) ∙ e in
+    omega (arith, lin, lt-true a b f)
+
+pub not-less-read : (a b : ℤ) → Small a → Small b → ltZ (toZ w64 (ofZ w64 a)) (toZ w64 (ofZ w64 b)) ≡ false → b ≤ℤ a
+not-less-read a b s t e =
+    let f : ltZ a b ≡ false = ap (λ z. ltZ z b) (sym (toZ-ofZ w64 a (small-fits a s))) ∙ ap (ltZ (toZ w64 (ofZ w64 a))) (sym (toZ-ofZ w64 b (small-fits b t))) ∙ e in
+    omega (arith, lin, lt-false a b f)

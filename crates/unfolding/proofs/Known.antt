@@ -79,7 +79,11 @@ module _ (u : ℕ) (gs rs fs ms : List ℕ) (qs : List ℤ) (y : ℕ) (n : Known
         quotients-are = λ k h. ap (λ xs. getD xs k (pos 0)) q ∙ n .quotients-are k h;
         folds-are = λ k h. folds k h ∙ turns-are m e k h;
         unfolded-are = λ k h. unfolded k h ∙ ap (λ z. z *ℤ pos (getD ms k 0) +ℤ pos (getD rs k 0)) (turns-are m e k h)
-          ∙ ap (λ x. fold-at u gs rs m k *ℤ pos x +ℤ pos (getD rs k 0)) (n .moduli-are k h) }
+          ∙ ap (λ x. fold-at u gs rs m k *ℤ pos x +ℤ pos (getD rs k 0)) (n .moduli-are k h);
+        moderate = λ k h. moderate-sum (getD (f .unfolded) k (pos 0)) (turns-of-code fs qs y k *ℤ pos (getD ms k 0)) (getD rs k 0) (unfolded k h) (turns-fit k h) (n .small k) }
+    where
+      moderate-sum : (c z : ℤ) (r : ℕ) → c ≡ z +ℤ pos r → From-to (2 ^ 41) z → r < 2 ^ 32 → (negℤ (pos (2 ^ 42)) ≤ℤ c) × (c ≤ℤ pos (2 ^ 42))
+      moderate-sum c z r e (l, h) s = (omega (arith, lin), omega (arith, lin))
 
 -- numbers that went to bits and back
 pub turns-read : (y g : ℕ) (q r : ℤ) → SFits w64 q → r ≡ divEuclid (pos y -ℤ toZ w64 (ofZ w64 q)) (pos g) → r ≡ divEuclid (pos y -ℤ q) (pos g)

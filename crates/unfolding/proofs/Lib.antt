@@ -10,3 +10,4 @@ pub mod Arcs
 pub mod Covers
 pub mod Averages
 pub mod Bracketing
+pub mod Assembly

@@ -38,3 +38,7 @@ Moderate xs = (k : ℕ) → k < length xs → (negℤ (pos (2 ^ 42)) ≤ℤ getD
 -- the position of a range of R that a whole number is
 abbrev pub position-of : (R : ℕ) → ℤ → ℕ
 position-of R z = z modulo R
+
+-- a number that no sum or difference here wraps
+abbrev pub Small : ℤ → Type 0
+Small z = (negℤ (pos (2 ^ 43)) ≤ℤ z) × (z ≤ℤ pos (2 ^ 43))

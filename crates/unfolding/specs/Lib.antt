@@ -6,4 +6,5 @@ pub mod Folded
 pub mod Robust
 pub mod Brackets
 pub mod Refusals
+pub mod Told
 pub mod Unfolds

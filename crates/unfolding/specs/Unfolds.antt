@@ -2,7 +2,7 @@
 use mathlib.Core.Path.{_≡_}
 use mathlib.Core.List.{List}
 use Prim.Native.Nat.{ℕ, _+_, _*_, _%_, _≤_, _<_}
-use lib.ListN.{length, getD, take}
+use lib.ListN.{length, getD}
 use lib.IntN.{ℤ, pos, _+ℤ_, _-ℤ_}
 use lib.Signed.{_≤ℤ_}
 use Rattle.std.specs.declared.result.Result.{Result}
@@ -13,29 +13,21 @@ use Rattle.settings.specs.Settings.{modulus-at, range-of}
 use Rattle.settings.specs.Told.{unit-of, factors-of}
 use Rattle.unfolding.specs.declared.kept.Unfolding.{Unfolding}
 use Rattle.unfolding.specs.declared.refusals.UnfoldRefusal.{UnfoldRefusal}
+use Rattle.unfolding.specs.Told.{quotients-of, folds-of, unfolded-of}
 use Rattle.unfolding.specs.Channels.{by-channel, Greatest-at, Least-at}
 use Rattle.unfolding.specs.Folds.{quotient-at, fold-at, unfolded-at, Folds-well}
 use Rattle.unfolding.specs.Robust.{Robust}
 use Rattle.unfolding.specs.Brackets.{Allowed, Exact, Mean-near, low-at, high-at, rounded-mean}
 use Rattle.unfolding.specs.Refusals.{All-fine, Unfold-refused}
 
-abbrev pub quotients-of : Unfolding → List ℤ
-quotients-of w = take (w .folding .count) (w .folding .quotients)
-
-abbrev pub folds-of : Unfolding → List ℤ
-folds-of w = take (w .folding .count) (w .folding .folds)
-
-abbrev pub unfolded-of : Unfolding → List ℤ
-unfolded-of w = take (w .folding .count) (w .folding .unfolded)
-
 -- the numbers, from the readings and bounds
 pub record Unfolds (u : ℕ) (gs rs ts : List ℕ) (w : Unfolding) : Type 0 where
   pub checked : All-fine u gs rs ts
   pub n : ℕ
-  pub quotients-are : quotients-of w ≡ by-channel (length gs) (quotient-at u rs)
+  pub quotients-are : quotients-of (w .folding) ≡ by-channel (length gs) (quotient-at u rs)
   pub folds-well : Folds-well u gs rs n
-  pub folds-are : folds-of w ≡ by-channel (length gs) (fold-at u gs rs n)
-  pub unfolded-are : unfolded-of w ≡ by-channel (length gs) (unfolded-at u gs rs n)
+  pub folds-are : folds-of (w .folding) ≡ by-channel (length gs) (fold-at u gs rs n)
+  pub unfolded-are : unfolded-of (w .folding) ≡ by-channel (length gs) (unfolded-at u gs rs n)
   pub robust : Robust u gs rs n
   pub lo-channel : ℕ
   pub lo-is : Greatest-at (length gs) (low-at u gs rs ts n) (w .ends .0) lo-channel

@@ -4,7 +4,7 @@ ghost use lib.IntN.{ℤ, pos, _+ℤ_, _-ℤ_, negℤ};
 ghost use lib.ListN.{length, getD};
 ghost use lib.Signed.{_≤ℤ_};
 ghost use mathlib.Core.Path.{_≡_};
-ghost use Rattle.unfolding.specs.Channels.{Greatest-at, Least-at, Moderate};
+ghost use Rattle.unfolding.specs.Channels.{Greatest-at, Least-at, Moderate, Small};
 ghost use Rattle.unfolding.specs.Ends.{begins-at, ends-at};
 
 // The lowest number that a reading allows where it is unfolded.
@@ -28,6 +28,7 @@ pub(crate) fn ends(unfolded: &[i64], bounds: &[u32]) -> (i64, i64)
     requires { ⌜ 1 ≤ length (now unfolded) ⌝ ∗ ⌜ length (now bounds) ≡ length (now unfolded) ⌝ ∗ ⌜ Moderate (now unfolded) ⌝ }
     ensures lo { λ r. ⌜ ((k : ℕ) × Greatest-at (length (now (unfolded .entry))) (begins-at (now (unfolded .entry)) (now (bounds .entry))) (r .0) k) ⌝ }
     ensures hi { λ r. ⌜ ((k : ℕ) × Least-at (length (now (unfolded .entry))) (ends-at (now (unfolded .entry)) (now (bounds .entry))) (r .1) k) ⌝ }
+    ensures small { λ r. ⌜ Small (r .0) ⌝ ∗ ⌜ Small (r .1) ⌝ }
 {
     let mut lo = begins(unfolded[0], bounds[0]);
     let mut hi = reaches(unfolded[0], bounds[0]);
@@ -64,4 +65,12 @@ pub(crate) fn channel_of_hi(unfolded: &[i64], bounds: &[u32], hi: i64) -> usize
         }
     }
     unreachable()
+}
+
+/// How far it is from one number up to another.
+pub(crate) fn span(from: i64, to: i64) -> u64
+    requires { ⌜ Small from ⌝ ∗ ⌜ Small to ⌝ ∗ ⌜ from ≤ℤ to ⌝ }
+    ensures { λ r. ⌜ pos r ≡ to -ℤ from ⌝ }
+{
+    (to - from) as u64
 }

@@ -5,7 +5,7 @@ ghost use lib.ListN.{length, getD};
 ghost use lib.Signed.{_≤ℤ_};
 ghost use mathlib.Core.Path.{_≡_};
 ghost use Rattle.std.specs.Numbers.{divEuclid};
-ghost use Rattle.settings.specs.Settings.{modulus-at};
+ghost use Rattle.settings.specs.Settings.{Accepted};
 ghost use Rattle.settings.specs.Told.{factors-of, unit-of};
 ghost use Rattle.unfolding.specs.Folded.{Folded};
 use crate::Folding;
@@ -32,7 +32,8 @@ fn unfolded_reading(folds: i64, modulus: u32, reading: u32) -> i64
 /// Folds one reading of each channel.
 pub(crate) fn fold(setting: &Setting, readings: &[u32]) -> Folding
     requires { ⌜ length (now readings) ≡ length (factors-of (now setting)) ⌝ }
-    ensures { λ r. ⌜ Folded (unit-of (now (setting .entry))) (factors-of (now (setting .entry))) (now (readings .entry)) r ⌝ }
+    ensures folded { λ r. ⌜ Folded (unit-of (now (setting .entry))) (factors-of (now (setting .entry))) (now (readings .entry)) r ⌝ }
+    ensures accepted { λ _. ⌜ Accepted (unit-of (now (setting .entry))) (factors-of (now (setting .entry))) ⌝ }
 {
     let count = readings.len();
     let factors = setting.factors();

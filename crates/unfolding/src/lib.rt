@@ -1,4 +1,5 @@
 // Unfolding: from one reading of each channel to folding numbers, bracket and mean.
+mod answers;
 mod checks;
 mod digits;
 mod ends;
@@ -7,7 +8,9 @@ mod kept;
 mod means;
 mod quotients;
 mod refusals;
+mod telling;
 
 pub use kept::Folding;
 pub use kept::Unfolding;
 pub use refusals::UnfoldRefusal;
+pub use answers::unfold;

@@ -18,8 +18,7 @@ invert-requires c κs =
 pub returns-in-Break-invert : need.returns-in-Break-invert
 returns-in-Break-invert c =
     let p = err-from-errBy (c .from-residual .result) (c .from-residual .ensures .1) in
-    let (k, d, e, f) = c .in-Break-invert .ensures tt .told in
-    rw (p .1, p .2) (_, k, d, e, f)
+    rw (p .1, p .2) (c .in-Break-invert .ensures tt .told)
 
 pub loop-first-again : need.loop-first-again
 loop-first-again c = (c .invert .ensures .rows, rw add-one (c .in-Continue-invert .ensures tt .told))

@@ -30,7 +30,7 @@ returns-in-Err c =
     let is = c .in-Err .ensures tt in
     record {
       rows = inv .1;
-      told = (_, _, refl, shares (c .args .factors .now) (c .loop-second .inverses) _ _ _ (omega arith) (omega arith) (is .0) (is .1) (inv .2) (inv .3));
+      told = (_, _, _, refl, shares (c .args .factors .now) (c .loop-second .inverses) _ _ _ (omega arith) (omega arith) (is .0) (is .1) (inv .2) (inv .3));
     }
 
 pub returns : need.returns

@@ -35,4 +35,6 @@ loop-k-again c =
        (omega (arith, inv .2, inv .0 .accepted .counted .1)) (search needs) (reading-read _ _ _ _ (code k) (search needs) turns (c .unfolded-reading .ensures)) (inv .4))
 
 pub returns : need.returns
-returns c = folded _ _ _ _ _ _ _ (c .loop-k .inv .0) _ (c .pre) refl (λ k h. c .loop-k .inv .3 k (omega arith)) (λ k h. c .loop-k .inv .4 k (omega arith))
+returns c = record {
+    folded = folded _ _ _ _ _ _ _ (c .loop-k .inv .0) _ (c .pre) refl (λ k h. c .loop-k .inv .3 k (omega arith)) (λ k h. c .loop-k .inv .4 k (omega arith));
+    accepted = c .loop-k .inv .0 .accepted }

@@ -6,7 +6,7 @@ use mathlib.Core.Path.{_≡_, refl, ap}
 use lib.ListN.{length, take, getD}
 use lib.Seq.{length-take-le}
 use Rattle.settings.proofs.Only.{one-position}
-use Rattle.settings.proofs.Passed.{passed, modulus-kept}
+use Rattle.settings.proofs.Passed.{passed, modulus-kept, modulus-pos}
 use Rattle.settings.proofs.kept.Setting.remainder.Needs as need
 
 pub returns-then-position-self : need.returns-then-position-self
@@ -21,12 +21,7 @@ returns-then-channel-self c =
     record { told = (omega (arith, s .«range_is»), omega (arith, length-take-le (s .count) (s .factors) few), refl); only = one-position _ _ (passed s few) }
 
 pub rem-result : need.rem-result
-rem-result c =
-    let s = c .args .self .now in
-    let few : s .count ≤ length (s .factors) = search needs in
-    let k = c .args .channel in
-    let h : k < length (take (s .count) (s .factors)) = omega (arith, length-take-le (s .count) (s .factors) few) in
-    omega (arith, modulus-kept s k (c .if-channel-self .left), s .«moduli_fit» k h)
+rem-result c = modulus-pos (c .args .self .now) _ (search needs) (omega arith)
 
 pub cast-result-2 : need.cast-result-2
 cast-result-2 c = omega (arith, mod-lt (c .args .position) (rem-result c))
