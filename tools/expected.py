@@ -1,0 +1,331 @@
+#!/usr/bin/env python3
+"""What the programs must print, worked out a second time.
+
+An oracle in plain Python, written from the rules in docs/ and from nothing in
+crates/. Python's whole numbers have no limit, and its // and % round towards
+minus infinity, as the rules do.
+
+  tools/expected.py unfold < TABLE    what the program `unfold` must print
+  tools/expected.py cases < CASES     what the program `cases` must print
+  tools/expected.py self-check [N]    N random small settings (default 3000):
+                                      the closed form against trying every
+                                      position, and the promises of docs/
+"""
+import itertools
+import random
+import sys
+from math import gcd
+
+NO_SIGNAL = 4294967295  # what `-` stands for in a row
+
+
+class Refused(Exception):
+    """A numbered refusal: number, channel, depth and two figures; what it does not name is 0."""
+
+    def __init__(self, number, channel=0, first=0, second=0, depth=0):
+        super().__init__(number)
+        self.number, self.channel, self.depth = number, channel, depth
+        self.first, self.second = first, second
+
+    def key(self):
+        return (self.number, self.channel, self.depth, self.first, self.second)
+
+    def line(self):
+        return f"refused {self.number} channel {self.channel} depth {self.depth}"
+
+
+# ---- the circle
+
+def distance(a, b, m):
+    return min((a - b) % m, (b - a) % m)
+
+
+def allows(r, m, t, p):
+    return distance(r, p, m) <= t
+
+
+# ---- settings
+
+class Setting:
+    def __init__(self, unit, factors):
+        self.unit, self.factors = unit, list(factors)
+        self.moduli = [unit * g for g in factors]
+        self.range = unit
+        for g in factors:
+            self.range *= g
+
+    def count(self):
+        return len(self.factors)
+
+
+def check_count(items):
+    if not 1 <= len(items) <= 8:
+        raise Refused(1)
+
+
+def check_unit(unit):
+    if not 1 <= unit <= 2**24:
+        raise Refused(2)
+
+
+def check_factors(factors):
+    for k, g in enumerate(factors):
+        if not 2 <= g <= 32768:
+            raise Refused(3, k)
+
+
+def check_moduli(moduli):
+    for k, m in enumerate(moduli):
+        if not 1 <= m <= 2**31:
+            raise Refused(4, k)
+
+
+def check_pairs(factors):
+    for j in range(len(factors)):
+        for k in range(j + 1, len(factors)):
+            d = gcd(factors[j], factors[k])
+            if d != 1:
+                raise Refused(5, j, k, d)
+
+
+def check_range(unit, factors):
+    product = unit
+    for k, g in enumerate(factors):
+        product *= g
+        if product > 2**40:
+            raise Refused(6, k)
+
+
+def setting_new(unit, factors):
+    check_count(factors)
+    check_unit(unit)
+    check_factors(factors)
+    check_moduli([unit * g for g in factors])
+    check_pairs(factors)
+    check_range(unit, factors)
+    return Setting(unit, factors)
+
+
+def setting_from_moduli(moduli):
+    check_count(moduli)
+    check_moduli(moduli)
+    unit = gcd(*moduli)
+    factors = [m // unit for m in moduli]
+    check_unit(unit)
+    check_factors(factors)
+    check_pairs(factors)
+    check_range(unit, factors)
+    return Setting(unit, factors)
+
+
+def remainder(s, position, channel):
+    if position >= s.range:
+        raise Refused(31)
+    if channel >= s.count():
+        raise Refused(23, channel)
+    return position % s.moduli[channel]
+
+
+# ---- unfolding
+
+class Unfolding:
+    def line(self):
+        return (
+            "folds " + " ".join(map(str, self.folds))
+            + " unfolded " + " ".join(map(str, self.unfolded))
+            + f" start {self.start} count {self.count} mean {self.mean}"
+        )
+
+
+def channel0_fold(s, quotients):
+    """n0 by the Chinese remainder theorem in its textbook form: no mixed radix here."""
+    total = 1
+    for g in s.factors[1:]:
+        total *= g
+    n0 = 0
+    for g, q in zip(s.factors[1:], quotients[1:]):
+        others = total // g
+        wanted = q * pow(s.factors[0], -1, g) % g
+        n0 += wanted * others * pow(others, -1, g)
+    n0 %= total
+    assert 0 <= n0 and n0 * s.unit * s.factors[0] < s.range
+    assert all((n0 * s.factors[0] - q) % g == 0 for g, q in zip(s.factors[1:], quotients[1:]))
+    return n0
+
+
+def channel0_fold_by_trial(s, quotients):
+    """n0 by trying every number in its limits; there must be just one."""
+    total = s.range // (s.unit * s.factors[0])
+    fits = [
+        n for n in range(total)
+        if all((n * s.factors[0] - q) % g == 0 for g, q in zip(s.factors[1:], quotients[1:]))
+    ]
+    assert len(fits) == 1, (s.unit, s.factors, quotients, fits)
+    return fits[0]
+
+
+def fold(s, readings, find=channel0_fold):
+    """Quotients, folding numbers and unfolded readings: no word of bounds."""
+    m = s.unit
+    quotients = [(2 * (r - readings[0]) + m) // (2 * m) for r in readings]
+    n0 = find(s, quotients)
+    folds = []
+    for g, q in zip(s.factors, quotients):
+        n, left = divmod(n0 * s.factors[0] - q, g)
+        assert left == 0 and n >= -1
+        folds.append(n)
+    unfolded = [n * modulus + r for n, modulus, r in zip(folds, s.moduli, readings)]
+    return quotients, folds, unfolded
+
+
+def unfold(s, readings, bounds, find=channel0_fold):
+    k = s.count()
+    if len(readings) != k:
+        raise Refused(13, 0, len(readings), k)
+    if len(bounds) != k:
+        raise Refused(13, 0, len(bounds), k)
+    for i in range(k):
+        if 4 * bounds[i] >= s.unit:
+            raise Refused(15, i, 4 * bounds[i], s.unit)
+        if readings[i] >= s.moduli[i]:
+            raise Refused(25, i, readings[i], s.moduli[i])
+    u = Unfolding()
+    u.quotients, u.folds, u.unfolded = fold(s, readings, find)
+    lows = [c - t for c, t in zip(u.unfolded, bounds)]
+    highs = [c + t for c, t in zip(u.unfolded, bounds)]
+    u.lo, u.hi = max(lows), min(highs)
+    if u.lo > u.hi:
+        raise Refused(16, lows.index(u.lo), u.lo - u.hi, highs.index(u.hi))
+    u.start, u.count = u.lo % s.range, u.hi - u.lo + 1
+    u.mean = (2 * sum(u.unfolded) + k) // (2 * k) % s.range
+    return u
+
+
+# ---- self-check
+
+def small_setting(rng):
+    """A random accepted setting with a range of at most some thousands."""
+    while True:
+        unit = rng.choice([1, 1, 2, 3, 4, 5, 6, 7, 8, 9, 10, 12, 16, 17])
+        factors = [rng.randint(2, 9) for _ in range(rng.randint(1, 4))]
+        try:
+            s = setting_new(unit, factors)
+        except Refused as r:
+            assert r.number == 5
+            continue
+        if s.range <= 4000:
+            return s
+
+
+def check_one(s, rng):
+    k = s.count()
+    most = (s.unit - 1) // 4
+    bounds = [rng.randint(0, most) for _ in range(k)]
+    if rng.random() < 0.7:
+        # one whole number and an error for each channel, now and then past its bound
+        n = rng.randint(-2 * s.range, 2 * s.range)
+        errors = [rng.randint(-t, t) for t in bounds]
+        if rng.random() < 0.3:
+            i = rng.randrange(k)
+            errors[i] += rng.choice([-1, 1])
+        readings = [(n + e) % m for e, m in zip(errors, s.moduli)]
+    else:
+        n = errors = None
+        readings = [rng.randrange(m) for m in s.moduli]
+
+    quotients, folds, unfolded = fold(s, readings)
+    assert (quotients, folds, unfolded) == fold(s, readings, channel0_fold_by_trial)
+    assert quotients[0] == 0
+    for c in unfolded:
+        assert -s.unit <= 2 * (c - unfolded[0]) < s.unit
+    if n is not None and all(4 * abs(e) < s.unit for e in errors):
+        shifts = {c - n - e for c, e in zip(unfolded, errors)}
+        assert len(shifts) == 1 and shifts.pop() % s.range == 0
+
+    allowed = [
+        p for p in range(s.range)
+        if all(allows(r, m, t, p) for r, m, t in zip(readings, s.moduli, bounds))
+    ]
+    try:
+        u = unfold(s, readings, bounds)
+    except Refused as r:
+        assert r.number == 16 and not allowed
+        return "contradictory"
+    bracket = [(u.start + i) % s.range for i in range(u.count)]
+    assert len(set(bracket)) == u.count and sorted(bracket) == allowed
+    assert 0 <= u.mean < s.range
+    assert all(distance(u.mean, p, s.range) <= max(bounds) for p in bracket)
+    return "passes the end" if u.start + u.count > s.range else "accepted"
+
+
+def check_circle(rng):
+    m = rng.randint(1, 12)
+    t = rng.randint(0, 8)
+    r, p = rng.randint(-30, 30), rng.randint(-30, 30)
+    by_errors = any((r - p - e) % m == 0 for e in range(-t, t + 1))
+    assert allows(r, m, t, p) == by_errors
+
+
+def check_remainders(s):
+    """No two positions share all remainders, and bounds 0 give each one back."""
+    seen = {}
+    for n in range(s.range):
+        rests = tuple(remainder(s, n, k) for k in range(s.count()))
+        assert rests not in seen
+        seen[rests] = n
+        u = unfold(s, list(rests), [0] * s.count())
+        assert (u.start, u.count, u.mean) == (n, 1, n)
+    if s.range <= 200:
+        for readings in itertools.product(*map(range, s.moduli)):
+            try:
+                u = unfold(s, list(readings), [0] * s.count())
+            except Refused:
+                assert readings not in seen
+            else:
+                assert seen[readings] == u.start
+
+
+def check_from_moduli(rng):
+    """From moduli: the same setting as from its unit and factors."""
+    moduli = [rng.choice([1, 2, 6, 10, 15]) * rng.randint(0, 9) for _ in range(rng.randint(0, 9))]
+    try:
+        s = setting_from_moduli(moduli)
+    except Refused as r:
+        if r.number in (1, 4):
+            return
+        unit = gcd(*moduli)
+        try:
+            setting_new(unit, [m // unit for m in moduli])
+        except Refused as other:
+            assert other.key() == r.key()
+            return
+        raise AssertionError(moduli)
+    assert setting_new(s.unit, s.factors).moduli == moduli == s.moduli
+
+
+def self_check(turns):
+    rng = random.Random(20101)
+    seen = {}
+    for turn in range(turns):
+        s = small_setting(rng)
+        for _ in range(5):
+            what = check_one(s, rng)
+            seen[what] = seen.get(what, 0) + 1
+        for _ in range(20):
+            check_circle(rng)
+        check_from_moduli(rng)
+        if turn % 20 == 0 and s.range <= 1500:
+            check_remainders(s)
+    print(f"{turns} settings:", ", ".join(f"{seen[w]} {w}" for w in sorted(seen)))
+
+
+def main(words):
+    if words[:1] == ["self-check"] and len(words) <= 2:
+        self_check(int(words[1]) if len(words) == 2 else 3000)
+        return 0
+    print(__doc__.strip(), file=sys.stderr)
+    return 2
+
+
+if __name__ == "__main__":
+    sys.exit(main(sys.argv[1:]))
