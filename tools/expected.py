@@ -201,6 +201,164 @@ def unfold(s, readings, bounds, find=channel0_fold):
     return u
 
 
+# ---- the desk's table
+
+class BadText(Exception):
+    """Text that is no table: the number of the line and what is wrong with it."""
+
+    def __init__(self, line, message):
+        super().__init__(message)
+        self.line, self.message = line, message
+
+
+def split_lines(data):
+    """The lines of some bytes; a last line without its byte 10 counts too."""
+    lines = data.split(b"\n")
+    if lines[-1] == b"":
+        lines.pop()
+    return lines
+
+
+def words_of(line):
+    return [w for w in line.split(b" ") if w]
+
+
+def passed_over(line):
+    return line.startswith(b"#") or not words_of(line)
+
+
+def is_digits(word):
+    return len(word) > 0 and all(48 <= b <= 57 for b in word)
+
+
+def numbers(line_number, words, first, dash):
+    """The numbers of a line from its word `first` on, words being counted from 1."""
+    told = []
+    for at, word in enumerate(words, start=1):
+        if at < first:
+            continue
+        if word == b"-":
+            if not dash:
+                raise BadText(line_number, f"word {at} is a dash, which stands only in rows")
+            told.append(NO_SIGNAL)
+        elif not is_digits(word):
+            raise BadText(line_number, f"word {at} is no number")
+        elif int(word) >= 2**32:
+            raise BadText(line_number, f"word {at} is above 4294967295")
+        else:
+            told.append(int(word))
+    return told
+
+
+def read_table(lines, show):
+    """Hands each answer to `show`: an Unfolding or a Refused for a row, or the
+    Refused of the setting, after which nothing more is looked at."""
+    note = moduli = bounds = setting = None
+    for at, line in enumerate(lines, start=1):
+        if passed_over(line):
+            continue
+        words = words_of(line)
+        if words[0] == b"note":
+            if note is not None:
+                raise BadText(at, "a second note")
+            if moduli is not None or bounds is not None:
+                raise BadText(at, "a note after the moduli or bounds line")
+            note = line
+        elif words[0] == b"moduli":
+            if moduli is not None:
+                raise BadText(at, "a second moduli line")
+            moduli = numbers(at, words, 2, False)
+        elif words[0] == b"bounds":
+            if bounds is not None:
+                raise BadText(at, "a second bounds line")
+            bounds = numbers(at, words, 2, False)
+        else:
+            if moduli is None:
+                raise BadText(at, "no moduli line")
+            if bounds is None:
+                raise BadText(at, "no bounds line")
+            readings = numbers(at, words, 1, True)
+            try:
+                show(unfold(setting, readings, bounds))
+            except Refused as refused:
+                show(refused)
+        if setting is None and moduli is not None and bounds is not None:
+            try:
+                setting = setting_from_moduli(moduli)
+            except Refused as refused:
+                show(refused)
+                return
+    if moduli is None:
+        raise BadText(len(lines) + 1, "no moduli line")
+    if bounds is None:
+        raise BadText(len(lines) + 1, "no bounds line")
+
+
+def run_unfold(data):
+    try:
+        read_table(split_lines(data), lambda answer: print(answer.line()))
+    except BadText as bad:
+        print(f"unfold: line {bad.line}: {bad.message}", file=sys.stderr)
+        return 1
+    return 0
+
+
+# ---- the program `cases`
+
+def with_figures(answer):
+    if isinstance(answer, Refused):
+        return f"{answer.line()} figures {answer.first} {answer.second}"
+    return answer.line()
+
+
+def table_case(lines):
+    try:
+        read_table(lines, lambda answer: print(with_figures(answer)))
+    except BadText as bad:
+        print(f"bad text at line {bad.line}: {bad.message}")
+
+
+def unit_case(lines):
+    setting = None
+    for line in lines:
+        if passed_over(line):
+            continue
+        words = words_of(line)
+        try:
+            if setting is None:
+                if not (len(words) >= 3 and words[2] == b"factors"
+                        and all(map(is_digits, words[1:2] + words[3:]))):
+                    raise ValueError(line)
+                setting = setting_new(int(words[1]), [int(w) for w in words[3:]])
+                told = f"setting unit {setting.unit} range {setting.range} moduli "
+                print(told + " ".join(map(str, setting.moduli)))
+            else:
+                if not (len(words) == 3 and words[0] == b"remainder" and all(map(is_digits, words[1:]))):
+                    raise ValueError(line)
+                print(f"remainder {remainder(setting, int(words[1]), int(words[2]))}")
+        except Refused as refused:
+            print(with_figures(refused))
+            if setting is None:
+                return
+        except ValueError:
+            print("bad case")
+            return
+
+
+def run_cases(data):
+    cases = []
+    for line in split_lines(data):
+        if line.startswith(b"== "):
+            cases.append((line, []))
+        elif cases:
+            cases[-1][1].append(line)
+    for name, lines in cases:
+        print(name.decode("ascii"))
+        first = next((words_of(line)[0] for line in lines if not passed_over(line)), b"")
+        (unit_case if first == b"unit" else table_case)(lines)
+    return 0
+
+
 # ---- self-check
 
 def small_setting(rng):
@@ -323,6 +481,10 @@ def main(words):
     if words[:1] == ["self-check"] and len(words) <= 2:
         self_check(int(words[1]) if len(words) == 2 else 3000)
         return 0
+    if words == ["unfold"]:
+        return run_unfold(sys.stdin.buffer.read())
+    if words == ["cases"]:
+        return run_cases(sys.stdin.buffer.read())
     print(__doc__.strip(), file=sys.stderr)
     return 2
 
