@@ -10,6 +10,13 @@ minus infinity, as the rules do.
   tools/expected.py self-check [N]    N random small settings (default 3000):
                                       the closed form against trying every
                                       position, and the promises of docs/
+  tools/expected.py table ROWS SEED   a random table
+  tools/expected.py small N SEED      N random cases for the program `cases`
+
+To compare a program with it on a random input:
+
+    tools/expected.py table 100000 1 > T
+    target/bin/unfold < T | diff - <(tools/expected.py unfold < T)
 """
 import itertools
 import random
@@ -201,6 +208,26 @@ def unfold(s, readings, bounds, find=channel0_fold):
     return u
 
 
+def allowed_positions(s, readings, bounds):
+    """By trying every position of the range."""
+    return [
+        p for p in range(s.range)
+        if all(allows(r, m, t, p) for r, m, t in zip(readings, s.moduli, bounds))
+    ]
+
+
+def compare_with_trial(s, readings, bounds, answer):
+    """What the bracket, the mean and a refusal as contradictory must have to do with it."""
+    allowed = allowed_positions(s, readings, bounds)
+    if isinstance(answer, Refused):
+        assert answer.number == 16 and not allowed
+        return
+    bracket = [(answer.start + i) % s.range for i in range(answer.count)]
+    assert len(set(bracket)) == answer.count and sorted(bracket) == allowed
+    assert 0 <= answer.mean < s.range
+    assert all(distance(answer.mean, p, s.range) <= max(bounds) for p in bracket)
+
+
 # ---- the desk's table
 
 class BadText(Exception):
@@ -243,16 +270,17 @@ def numbers(line_number, words, first, dash):
             told.append(NO_SIGNAL)
         elif not is_digits(word):
             raise BadText(line_number, f"word {at} is no number")
-        elif int(word) >= 2**32:
+        elif len(word.lstrip(b"0")) > 10 or int(word) >= 2**32:
             raise BadText(line_number, f"word {at} is above 4294967295")
         else:
             told.append(int(word))
     return told
 
 
-def read_table(lines, show):
+def read_table(lines, show, trial=0):
     """Hands each answer to `show`: an Unfolding or a Refused for a row, or the
-    Refused of the setting, after which nothing more is looked at."""
+    Refused of the setting, after which nothing more is looked at. Up to the range
+    `trial` each answer is compared with trying every position."""
     note = moduli = bounds = setting = None
     for at, line in enumerate(lines, start=1):
         if passed_over(line):
@@ -279,9 +307,12 @@ def read_table(lines, show):
                 raise BadText(at, "no bounds line")
             readings = numbers(at, words, 1, True)
             try:
-                show(unfold(setting, readings, bounds))
+                answer = unfold(setting, readings, bounds)
             except Refused as refused:
-                show(refused)
+                answer = refused
+            if setting.range <= trial and not (isinstance(answer, Refused) and answer.number != 16):
+                compare_with_trial(setting, readings, bounds, answer)
+            show(answer)
         if setting is None and moduli is not None and bounds is not None:
             try:
                 setting = setting_from_moduli(moduli)
@@ -313,7 +344,7 @@ def with_figures(answer):
 
 def table_case(lines):
     try:
-        read_table(lines, lambda answer: print(with_figures(answer)))
+        read_table(lines, lambda answer: print(with_figures(answer)), trial=1000)
     except BadText as bad:
         print(f"bad text at line {bad.line}: {bad.message}")
 
@@ -400,19 +431,12 @@ def check_one(s, rng):
         shifts = {c - n - e for c, e in zip(unfolded, errors)}
         assert len(shifts) == 1 and shifts.pop() % s.range == 0
 
-    allowed = [
-        p for p in range(s.range)
-        if all(allows(r, m, t, p) for r, m, t in zip(readings, s.moduli, bounds))
-    ]
     try:
         u = unfold(s, readings, bounds)
-    except Refused as r:
-        assert r.number == 16 and not allowed
+    except Refused as refused:
+        compare_with_trial(s, readings, bounds, refused)
         return "contradictory"
-    bracket = [(u.start + i) % s.range for i in range(u.count)]
-    assert len(set(bracket)) == u.count and sorted(bracket) == allowed
-    assert 0 <= u.mean < s.range
-    assert all(distance(u.mean, p, s.range) <= max(bounds) for p in bracket)
+    compare_with_trial(s, readings, bounds, u)
     return "passes the end" if u.start + u.count > s.range else "accepted"
 
 
@@ -477,9 +501,86 @@ def self_check(turns):
     print(f"{turns} settings:", ", ".join(f"{seen[w]} {w}" for w in sorted(seen)))
 
 
+# ---- random inputs
+
+def any_setting(rng):
+    """An accepted setting of any size that a table can have, its range up to 2^40."""
+    while True:
+        count = rng.randint(2, 8)
+        unit = rng.randint(1, 2 ** rng.randint(1, 24))
+        most = rng.choice([9, 30, 200, 2000, 32768])
+        try:
+            return setting_new(unit, [rng.randint(2, most) for _ in range(count)])
+        except Refused:
+            continue
+
+
+def any_row(s, bounds, rng):
+    what = rng.random()
+    position = rng.choice([rng.randrange(s.range), rng.randint(-5, 5), s.range - 1])
+    errors = [rng.randint(-t, t) for t in bounds]
+    if what < 0.3:
+        errors = [rng.choice([-t, t]) for t in bounds]
+    if 0.6 < what < 0.75:
+        errors[rng.randrange(len(errors))] += rng.choice([-1, 1]) * rng.randint(1, s.unit)
+    readings = [(position + e) % m for e, m in zip(errors, s.moduli)]
+    if 0.75 < what < 0.85:
+        readings = [rng.randrange(m) for m in s.moduli]
+    words = [str(r) for r in readings]
+    if 0.85 < what < 0.9:
+        k = rng.randrange(len(words))
+        words[k] = rng.choice(["-", str(s.moduli[k]), "4294967295"])
+    if 0.9 < what < 0.95:
+        words = words[1:] if rng.random() < 0.5 and len(words) > 1 else words + ["0"]
+    return " ".join(words)
+
+
+def any_table(s, rows, rng):
+    bounds = [rng.randint(0, (s.unit - 1) // 4) for _ in s.factors]
+    if rng.random() < 0.3:
+        bounds = [(s.unit - 1) // 4 for _ in s.factors]
+    lines = ["moduli " + " ".join(map(str, s.moduli)), "bounds " + " ".join(map(str, bounds))]
+    return lines + [any_row(s, bounds, rng) for _ in range(rows)]
+
+
+def any_numbers(rng):
+    """Moduli, or a unit and factors, that may well be refused."""
+    near = [0, 1, 2, 3, 5, 6, 7, 10, 2**15 - 1, 2**15, 2**15 + 1, 2**24, 2**24 + 1, 2**31, 2**31 + 1, 2**32 - 1]
+    unit = rng.choice(near + [rng.randint(1, 1000)] * 30)
+    few = rng.choice([1, 2, 3, 4, 8, 9])
+    factors = [rng.choice(near + [rng.randint(2, 100)] * 60) for _ in range(few)]
+    return unit, factors
+
+
+def any_case(rng):
+    if rng.random() < 0.5:
+        return any_table(rng.choice([any_setting, small_setting])(rng), 3, rng)
+    unit, factors = any_numbers(rng)
+    if rng.random() < 0.5:
+        moduli = [min(unit * g, 2**32 - 1) for g in factors]
+        return ["moduli " + " ".join(map(str, moduli)), "bounds 0"]
+    lines = [f"unit {unit} factors " + " ".join(map(str, factors))]
+    product = unit
+    for g in factors:
+        product *= g
+    for _ in range(3):
+        position = min(rng.choice([0, product // 2, max(product - 1, 0), product]), 2**64 - 1)
+        lines.append(f"remainder {position} {rng.randint(0, len(factors))}")
+    return lines
+
+
 def main(words):
     if words[:1] == ["self-check"] and len(words) <= 2:
         self_check(int(words[1]) if len(words) == 2 else 3000)
+        return 0
+    if words[:1] == ["table"] and len(words) == 3:
+        rng = random.Random(int(words[2]))
+        print("\n".join(any_table(any_setting(rng), int(words[1]), rng)))
+        return 0
+    if words[:1] == ["small"] and len(words) == 3:
+        rng = random.Random(int(words[2]))
+        for at in range(int(words[1])):
+            print(f"== random {at}", *any_case(rng), sep="\n")
         return 0
     if words == ["unfold"]:
         return run_unfold(sys.stdin.buffer.read())
