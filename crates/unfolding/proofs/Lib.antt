@@ -12,3 +12,4 @@ pub mod Averages
 pub mod Bracketing
 pub mod Assembly
 pub mod Returning
+pub mod Computed

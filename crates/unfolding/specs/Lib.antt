@@ -9,3 +9,4 @@ pub mod Refusals
 pub mod Told
 pub mod Returns
 pub mod Unfolds
+pub mod Worked

@@ -7,7 +7,7 @@ ghost use mathlib.Core.Path.{_≡_};
 ghost use Rattle.std.specs.Numbers.{divEuclid};
 ghost use Rattle.settings.specs.Told.{factors-of, unit-of};
 ghost use Rattle.unfolding.specs.Folded.{Folded};
-use crate::Folding;
+use crate::kept::Folding;
 use crate::digits::agreeing_units;
 use crate::quotients::quotients;
 use settings::Setting;

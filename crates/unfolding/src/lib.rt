@@ -3,6 +3,7 @@ mod answers;
 mod checks;
 mod digits;
 mod ends;
+mod examples;
 mod folding;
 mod kept;
 mod means;
@@ -10,7 +11,7 @@ mod quotients;
 mod refusals;
 mod telling;
 
-pub use kept::Folding;
 pub use kept::Unfolding;
 pub use refusals::UnfoldRefusal;
 pub use answers::unfold;
+pub use examples::worked_unfoldings;

@@ -1,7 +1,7 @@
 // What an unfolding tells.
 ghost use mathlib.Core.Path.{_≡_};
 ghost use Rattle.unfolding.specs.Told.{folds-of, quotients-of, unfolded-of};
-use crate::Folding;
+use crate::kept::Folding;
 use crate::Unfolding;
 
 impl Folding {
