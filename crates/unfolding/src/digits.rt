@@ -6,6 +6,15 @@ ghost use Rattle.settings.specs.Told.{factors-of};
 ghost use Rattle.unfolding.specs.Digits.{Agreeing, Below, peeled};
 use settings::Setting;
 
+// A residue less one digit, divided by that digit's factor, whose inverse it is
+// multiplied by; all modulo `factor`.
+fn less_digit(left: u32, digit: u32, inverse: u32, factor: u32) -> u32
+    requires { ⌜ left < factor ⌝ ∗ ⌜ inverse < factor ⌝ ∗ ⌜ factor ≤ 32768 ⌝ }
+    ensures { λ r. ⌜ r < factor ⌝ ∗ ⌜ r ≡ (left + (factor - digit % factor)) % factor * inverse % factor ⌝ }
+{
+    (left + (factor - digit % factor)) % factor * inverse % factor
+}
+
 // What is left of a residue once each earlier digit is taken away and the rest
 // divided by that digit's factor, all modulo `factor`: the next digit.
 fn next_digit(residue: u32, factor: u32, inverses: &[u32], digits: &[u32]) -> u32
@@ -14,8 +23,7 @@ fn next_digit(residue: u32, factor: u32, inverses: &[u32], digits: &[u32]) -> u3
 {
     let mut left = residue;
     for j in 0..digits.len() {
-        let less = (left + (factor - digits[j] % factor)) % factor;
-        left = less * inverses[j] % factor;
+        left = less_digit(left, digits[j], inverses[j], factor);
     }
     left
 }

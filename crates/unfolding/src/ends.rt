@@ -6,6 +6,8 @@ ghost use lib.Signed.{_≤ℤ_};
 ghost use mathlib.Core.Path.{_≡_};
 ghost use Rattle.unfolding.specs.Channels.{Greatest-at, Least-at, Moderate, Small};
 ghost use Rattle.unfolding.specs.Ends.{begins-at, ends-at};
+use crate::numbers::greater;
+use crate::numbers::lesser;
 
 // The lowest number that a reading allows where it is unfolded.
 fn begins(unfolded: i64, bound: u32) -> i64
@@ -33,8 +35,8 @@ pub(crate) fn ends(unfolded: &[i64], bounds: &[u32]) -> (i64, i64)
     let mut lo = begins(unfolded[0], bounds[0]);
     let mut hi = reaches(unfolded[0], bounds[0]);
     for k in 1..unfolded.len() {
-        lo = lo.max(begins(unfolded[k], bounds[k]));
-        hi = hi.min(reaches(unfolded[k], bounds[k]));
+        lo = greater(lo, begins(unfolded[k], bounds[k]));
+        hi = lesser(hi, reaches(unfolded[k], bounds[k]));
     }
     (lo, hi)
 }

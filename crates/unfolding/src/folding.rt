@@ -8,6 +8,7 @@ ghost use Rattle.std.specs.Numbers.{divEuclid};
 ghost use Rattle.settings.specs.Told.{factors-of, unit-of};
 ghost use Rattle.unfolding.specs.Folded.{Folded};
 use crate::kept::Folding;
+use crate::numbers::floor;
 use crate::digits::agreeing_units;
 use crate::quotients::quotients;
 use settings::Setting;
@@ -17,7 +18,7 @@ fn folds_of_channel(units: u64, quotient: i64, factor: u32) -> i64
     requires { ⌜ units < 2 ^ 40 ⌝ ∗ ⌜ negℤ (pos (2 ^ 40)) ≤ℤ quotient ⌝ ∗ ⌜ quotient ≤ℤ pos (2 ^ 40) ⌝ ∗ ⌜ 0 < factor ⌝ }
     ensures { λ r. ⌜ r ≡ divEuclid (pos units -ℤ quotient) (pos factor) ⌝ }
 {
-    (units as i64 - quotient).div_euclid(factor as i64)
+    floor(units as i64 - quotient, factor as i64)
 }
 
 // A reading with its folds put back.

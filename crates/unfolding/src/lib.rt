@@ -7,6 +7,7 @@ mod examples;
 mod folding;
 mod kept;
 mod means;
+mod numbers;
 mod quotients;
 mod refusals;
 mod telling;

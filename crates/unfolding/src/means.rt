@@ -6,6 +6,7 @@ ghost use lib.Signed.{_≤ℤ_};
 ghost use mathlib.Core.Path.{_≡_};
 ghost use Rattle.std.specs.Numbers.{divEuclid};
 ghost use Rattle.unfolding.specs.Channels.{Moderate, position-of, total};
+use crate::numbers::floor;
 
 fn sum(unfolded: &[i64]) -> i64
     requires { ⌜ length (now unfolded) ≤ 8 ⌝ ∗ ⌜ Moderate (now unfolded) ⌝ }
@@ -25,7 +26,7 @@ pub(crate) fn rounded(unfolded: &[i64]) -> i64
     ensures { λ r. ⌜ r ≡ divEuclid (pos 2 *ℤ total (length (now (unfolded .entry))) (λ k. getD (now (unfolded .entry)) k (pos 0)) +ℤ pos (length (now (unfolded .entry)))) (pos (2 * length (now (unfolded .entry)))) ⌝ }
 {
     let count = unfolded.len() as i64;
-    (2 * sum(unfolded) + count).div_euclid(2 * count)
+    floor(2 * sum(unfolded) + count, 2 * count)
 }
 
 /// A whole number as a position of the range.

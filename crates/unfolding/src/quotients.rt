@@ -5,6 +5,7 @@ ghost use lib.ListN.{length, getD};
 ghost use mathlib.Core.Path.{_≡_};
 ghost use Rattle.std.specs.Numbers.{divEuclid};
 ghost use Rattle.unfolding.specs.Folds.{quotient-at};
+use crate::numbers::floor;
 
 fn quotient(reading: u32, first: u32, unit: u32) -> i64
     requires { ⌜ 0 < unit ⌝ }
@@ -12,7 +13,7 @@ fn quotient(reading: u32, first: u32, unit: u32) -> i64
 {
     let twice = 2 * (reading as i64 - first as i64);
     let unit = unit as i64;
-    (twice + unit).div_euclid(2 * unit)
+    floor(twice + unit, 2 * unit)
 }
 
 /// The quotient of each channel; channel 0's is 0.

@@ -24,11 +24,11 @@ loop-k-again c =
     let at = toZ-ofZ w64 (getD (c .args .unfolded .now) k (pos 0)) (search needs) in
     (greatest-more k (begins-at (c .args .unfolded .now) (c .args .bounds .now)) _ (c .begins .result) _
        (c .begins .ensures ∙ ap (λ z. z -ℤ pos (getD (c .args .bounds .now) k 0)) at)
-       (toZ-ofZ w64 (c .max-lo .result) (search needs) ∙ c .max-lo .ensures .value ∙ ap (maxZ _) (toZ-ofZ w64 (c .begins .result) (search needs)))
+       (toZ-ofZ w64 (c .greater-lo .result) (search needs) ∙ c .greater-lo .ensures ∙ ap (maxZ _) (toZ-ofZ w64 (c .begins .result) (search needs)))
        (c .loop-k .inv .0),
      least-more k (ends-at (c .args .unfolded .now) (c .args .bounds .now)) _ (c .reaches .result) _
        (c .reaches .ensures ∙ ap (λ z. z +ℤ pos (getD (c .args .bounds .now) k 0)) at)
-       (toZ-ofZ w64 (c .min-hi .result) (search needs) ∙ c .min-hi .ensures .value ∙ ap (minZ _) (toZ-ofZ w64 (c .reaches .result) (search needs)))
+       (toZ-ofZ w64 (c .lesser-hi .result) (search needs) ∙ c .lesser-hi .ensures ∙ ap (minZ _) (toZ-ofZ w64 (c .reaches .result) (search needs)))
        (c .loop-k .inv .1))
 
 pub returns : need.returns

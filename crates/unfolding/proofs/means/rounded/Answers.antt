@@ -18,6 +18,6 @@ returns c =
     let f₂ : SFits w64 (pos 2 *ℤ c .sum .result) = omega (arith, ints) in
     let f₃ : SFits w64 (pos 2 *ℤ c .sum .result +ℤ pos n) = omega (arith, ints) in
     let f₄ : SFits w64 (pos 2 *ℤ pos n) = omega (arith, ints) in
-    let f₅ : SFits w64 (c .div-euclid .result) = search needs in
+    let f₅ : SFits w64 (c .floor .result) = search needs in
     let l : n < 2 ^ 63 = omega arith in
-    simp toZ-ofZ (simp (toZ-ofZ, toZ-pos) at (c .div-euclid .ensures)) ∙ ap (λ z. divEuclid (pos 2 *ℤ z +ℤ pos n) (pos (2 * n))) (c .sum .ensures .value)
+    simp toZ-ofZ (simp (toZ-ofZ, toZ-pos) at (c .floor .ensures)) ∙ ap (λ z. divEuclid (pos 2 *ℤ z +ℤ pos n) (pos (2 * n))) (c .sum .ensures .value)

@@ -16,8 +16,8 @@ returns c =
     let f₂ : SFits w64 (pos 2 *ℤ (pos (c .args .reading) -ℤ pos (c .args .first))) = omega (arith, ints) in
     let f₃ : SFits w64 (pos 2 *ℤ (pos (c .args .reading) -ℤ pos (c .args .first)) +ℤ pos (c .args .unit)) = omega (arith, ints) in
     let f₄ : SFits w64 (pos 2 *ℤ pos (c .args .unit)) = omega (arith, ints) in
-    let f₅ : SFits w64 (c .div-euclid .result) = search needs in
+    let f₅ : SFits w64 (c .floor .result) = search needs in
     let l₁ : c .args .reading < 2 ^ 63 = omega arith in
     let l₂ : c .args .first < 2 ^ 63 = omega arith in
     let l₃ : c .args .unit < 2 ^ 63 = omega arith in
-    simp toZ-ofZ (simp (toZ-ofZ, toZ-pos) at (c .div-euclid .ensures))
+    simp toZ-ofZ (simp (toZ-ofZ, toZ-pos) at (c .floor .ensures))
