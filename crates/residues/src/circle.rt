@@ -1,10 +1,18 @@
 // What a reading allows, as a test.
-ghost use Prim.Native.Nat.{_<_};
+ghost use Prim.Native.Nat.{_-_, _<_, _≤_, min};
 ghost use lib.Dec.{T};
 ghost use mathlib.Core.Logic.{_↔_};
 ghost use mathlib.Core.Path.{_≡_};
 ghost use mathlib.Core.Bool.{false};
 ghost use Rattle.residues.specs.Circle.{Allows, Errs};
+
+// The shorter of the two ways round, where one of them is `ahead`.
+fn shorter_way(length: u64, ahead: u64) -> u64
+    requires { ⌜ ahead ≤ length ⌝ }
+    ensures { λ r. ⌜ r ≡ min ahead (length - ahead) ⌝ }
+{
+    ahead.min(length - ahead)
+}
 
 /// Whether a reading with this modulus and bound allows the position. No
 /// reading allows anything round a circle of length 0.
@@ -19,5 +27,5 @@ pub fn allows(modulus: u32, bound: u32, reading: u32, position: i64) -> bool
     let length = modulus as u64;
     let on_circle = position.rem_euclid(modulus as i64) as u64;
     let ahead = (reading as u64 + (length - on_circle)) % length;
-    ahead <= bound as u64 || length - ahead <= bound as u64
+    shorter_way(length, ahead) <= bound as u64
 }

@@ -1,6 +1,6 @@
 // Euclid's method: the greatest common divisor, and the inverse beside it.
 ghost use mathlib.Core.Path.{_≡_};
-ghost use Prim.Native.Nat.{_≤_, _<_};
+ghost use Prim.Native.Nat.{_+_, _-_, _*_, _%_, _^_, _<_};
 ghost use Rattle.residues.specs.Divisors.{Greatest};
 ghost use Rattle.residues.specs.Euclid.{Runs};
 
@@ -11,6 +11,14 @@ ghost use Rattle.residues.specs.Euclid.{Runs};
 pub struct Shared {
     pub divisor: u32,
     pub cofactor: u32,
+}
+
+// `a` less `b` times `c`, modulo `m`.
+fn less_product(a: u64, b: u64, c: u64, m: u64) -> u64
+    requires { ⌜ a < m ⌝ ∗ ⌜ b < 2 ^ 32 ⌝ ∗ ⌜ c < m ⌝ ∗ ⌜ m < 2 ^ 32 ⌝ }
+    ensures { λ r. ⌜ r ≡ (a + (m - b * c % m)) % m ⌝ }
+{
+    (a + (m - b * c % m)) % m
 }
 
 /// Runs Euclid's method on `m` and `a mod m`; none where `m` is 0.
@@ -30,7 +38,7 @@ pub fn euclid(a: u32, m: u32) -> Option<Shared>
         let next = high % rest;
         high = rest;
         rest = next;
-        let after = (at_high + (wide - quotient as u64 * at_rest % wide)) % wide;
+        let after = less_product(at_high, quotient as u64, at_rest, wide);
         at_high = at_rest;
         at_rest = after;
     }

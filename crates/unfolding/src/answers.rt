@@ -1,10 +1,10 @@
 // The public call: readings and bounds unfolded, or the first check that fails.
-ghost use Prim.Native.Nat.{ℕ, _≤_};
-ghost use lib.IntN.{pos, _-ℤ_};
+ghost use Prim.Native.Nat.{ℕ, _<_, _≤_, _^_};
+ghost use lib.IntN.{pos, _+ℤ_, _-ℤ_};
 ghost use lib.ListN.{length};
 ghost use lib.Signed.{_≤ℤ_};
 ghost use mathlib.Core.Path.{_≡_};
-ghost use Rattle.unfolding.specs.Channels.{Greatest-at, Least-at, Moderate, Small};
+ghost use Rattle.unfolding.specs.Channels.{Greatest-at, Least-at, Moderate, Small, position-of};
 ghost use Rattle.unfolding.specs.Ends.{Crossed, begins-at, ends-at};
 ghost use Rattle.settings.specs.Told.{factors-of, unit-of};
 ghost use Rattle.unfolding.specs.Returns.{Finds, Is-found};
@@ -34,6 +34,15 @@ fn contradictory(unfolded: &[i64], bounds: &[u32], ends: (i64, i64)) -> UnfoldRe
     UnfoldRefusal::Contradictory { low, excess, high }
 }
 
+// The bracket between two ends: its first position, and how many it has.
+fn bracket(ends: (i64, i64), range: u64) -> (u64, u64)
+    requires { ⌜ Small (ends .0) ⌝ ∗ ⌜ Small (ends .1) ⌝ ∗ ⌜ ends .0 ≤ℤ ends .1 ⌝ ∗ ⌜ 0 < range ⌝ ∗ ⌜ range ≤ 2 ^ 40 ⌝ }
+    ensures { λ r. ⌜ r .0 ≡ position-of range (ends .0) ⌝ ∗ ⌜ pos (r .1) ≡ ends .1 -ℤ ends .0 +ℤ pos 1 ⌝ }
+{
+    let (lo, hi) = ends;
+    (reduced(lo, range), span(lo, hi) + 1)
+}
+
 /// Unfolds one reading of each channel: folding numbers, unfolded readings, the
 /// bracket of positions that every reading allows, and the mean.
 pub fn unfold(setting: &Setting, readings: &[u32], bounds: &[u32]) -> Result<Unfolding, UnfoldRefusal>
@@ -49,8 +58,7 @@ pub fn unfold(setting: &Setting, readings: &[u32], bounds: &[u32]) -> Result<Unf
         return Err(contradictory(unfolded, bounds, ends));
     }
     let range = setting.range();
-    let start = reduced(ends.0, range);
-    let count = span(ends.0, ends.1) + 1;
+    let (start, count) = bracket(ends, range);
     let mean = reduced(rounded(unfolded), range);
     Ok(Unfolding { folding, ends, start, count, mean })
 }

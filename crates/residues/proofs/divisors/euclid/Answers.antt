@@ -1,12 +1,16 @@
 use native.Mathlib.Omega.{arith}
-use Rattle.residues.proofs.Turns.{start, again, ended, cofactor}
+use Prim.Native.Nat.{_%_}
+use mathlib.Core.Path.{sym, subst}
+use Rattle.residues.proofs.Turns.{State, start, again, ended, cofactor}
 use Rattle.residues.proofs.divisors.euclid.Needs as need
 
 pub loop-rest-holds : need.loop-rest-holds
 loop-rest-holds c = start _ _ (omega arith)
 
 pub loop-rest-again : need.loop-rest-again
-loop-rest-again c = again _ _ _ _ _ _ (omega arith) (omega arith) (c .loop-rest .inv)
+loop-rest-again c =
+    subst (State (c .args .a) (c .args .m) (c .loop-rest .rest) (c .loop-rest .high % c .loop-rest .rest) (c .loop-rest .at-rest)) (sym (c .less-product-after .ensures))
+      (again (c .args .a) (c .args .m) (c .loop-rest .high) (c .loop-rest .rest) (c .loop-rest .at-high) (c .loop-rest .at-rest) (omega arith) (omega arith) (c .loop-rest .inv))
 
 pub returns : need.returns
 returns c =

@@ -2,15 +2,15 @@ use borrow.Author.Needs.{needs}
 use native.Mathlib.Omega.{arith}
 use Prim.Native.Nat.{ℕ}
 use mathlib.Core.Path.{_≡_, refl, ap, _∙_}
-use lib.IntN.{ℤ, pos, _+ℤ_, _-ℤ_}
+use lib.IntN.{ℤ}
 use lib.ListN.{length}
 use mir.Syntax.{w64}
-use mir.Val.{toZ, ofZ}
 use Rattle.std.proofs.shelf.Signed.{toZ-ofZ}
 use Rattle.std.proofs.shelf.Results.{err-from-errBy}
 use Rattle.residues.specs.Circle.{_modulo_}
 use Rattle.unfolding.specs.Channels.{position-of}
-use Rattle.unfolding.proofs.Extremes.{small-fits, less-read, not-less-read, weaker}
+use Rattle.unfolding.proofs.Extremes.{less-read, not-less-read, weaker}
+use Rattle.unfolding.proofs.Covers.{range-pos}
 use Rattle.unfolding.proofs.Assembly.{counted, paired, moderate, contradicted, unfolds}
 use Rattle.unfolding.proofs.Returning.{found, is-found, not-refused}
 use Rattle.unfolding.proofs.answers.unfold.Needs as need
@@ -60,13 +60,10 @@ rounded-requires c κs =
 pub returns : need.returns
 returns c =
     let s = c .ends-ends .ensures .small in
-    let lo = toZ-ofZ w64 (c .ends-ends .result .0) (small-fits _ (s .0)) in
-    let hi = toZ-ofZ w64 (c .ends-ends .result .1) (small-fits _ (s .1)) in
     let range = c .range-range .ensures in
     let told = unfolds _ _ _ _ (c .check .ensures .accepted) (c .in-Continue-check .ensures tt .checked) _ (c .fold-folding .ensures) (c .unfolded-unfolded .result .now) (c .unfolded-unfolded .ensures) (search needs)
                _ refl (search needs) (search needs) (c .ends-ends .ensures .lo) (c .ends-ends .ensures .hi) (not-less-read _ _ (s .1) (s .0) (c .if-ends .left))
-               (reduced-read (c .reduced-start .ensures) range lo)
-               (ap (λ z. z +ℤ pos 1) (c .span-count .ensures ∙ ap (λ z. z -ℤ toZ w64 (ofZ w64 (c .ends-ends .result .0))) hi ∙ ap (λ z. c .ends-ends .result .1 -ℤ z) lo))
+               (reduced-read (c .bracket-start .ensures .0) range refl) (c .bracket-start .ensures .1)
                (reduced-read (c .reduced-mean .ensures) range (toZ-ofZ w64 (c .rounded .result) (search needs) ∙ c .rounded .ensures)) in
     record { answers = told; finds = found _ _ _ _ (c .check .ensures .accepted) _ told; found = is-found _ _ _ _ (c .check .ensures .accepted) _ told }
 
@@ -75,3 +72,9 @@ returns-in-Break-check c =
     let p = err-from-errBy (c .from-residual .result) (c .from-residual .ensures .1) in
     let refused = c .in-Break-check .ensures tt .checked in
     rw (p .1, p .2) (record { answers = refused; finds = tt; found = not-refused _ _ _ _ (c .check .ensures .accepted) _ refused })
+
+pub bracket-start-requires : need.bracket-start-requires
+bracket-start-requires c κs =
+    let s = c .ends-ends .ensures .small in
+    let a = c .check .ensures .accepted in
+    (s .0, (s .1, (not-less-read _ _ (s .1) (s .0) (c .if-ends .left), (omega (arith, c .range-range .ensures, range-pos _ _ a), omega (arith, c .range-range .ensures, a .range-fits)))))
