@@ -33,9 +33,15 @@ shift g a b q r x y e h = simp ring (omega (arith, lin, simp ring at h, simp rin
 
 again : (a b : ℕ) → Gcd b (a % b) → Gcd a b
 again a b r = record {
-    g = r .g; u = r .u * (a / b) + r .v; v = r .u; x = r .y; y = r .x -ℤ r .y *ℤ pos (a / b);
-    left = omega (arith, div-add-mod a b, ap (λ (z : ℕ). z * (a / b)) (r .left), r .right); right = r .left;
-    comb = shift (pos (r .g)) (pos a) (pos b) (pos (a / b)) (pos (a % b)) (r .x) (r .y) (ap pos (sym (div-add-mod a b))) (r .comb) }
+  g = r .g;
+  u = r .u * (a / b) + r .v;
+  v = r .u;
+  x = r .y;
+  y = r .x -ℤ r .y *ℤ pos (a / b);
+  left = omega (arith, div-add-mod a b, ap (λ (z : ℕ). z * (a / b)) (r .left), r .right);
+  right = r .left;
+  comb = shift (pos (r .g)) (pos a) (pos b) (pos (a / b)) (pos (a % b)) (r .x) (r .y) (ap pos (sym (div-add-mod a b))) (r .comb);
+}
 
 -- with f for the number of turns
 gcd-of : (f a b : ℕ) → b ≤ f → Gcd a b

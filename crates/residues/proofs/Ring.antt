@@ -14,11 +14,18 @@ pub distrib-r : (a b c : ℤ) → (a +ℤ b) *ℤ c ≡ a *ℤ c +ℤ b *ℤ c
 distrib-r a b c = omega (arith, ints, ap (λ (x : ℕ). x * up c) (sum-is a b), ap (λ (x : ℕ). x * down c) (sum-is a b))
 
 pub assoc : (a b c : ℤ) → (a *ℤ b) *ℤ c ≡ a *ℤ (b *ℤ c)
-assoc a b c = omega (arith, ints,
-    ap (λ (x : ℕ). x * up c) (product-is a b .0), ap (λ (x : ℕ). x * up c) (product-is a b .1),
-    ap (λ (x : ℕ). x * down c) (product-is a b .0), ap (λ (x : ℕ). x * down c) (product-is a b .1),
-    ap (λ (x : ℕ). up a * x) (product-is b c .0), ap (λ (x : ℕ). up a * x) (product-is b c .1),
-    ap (λ (x : ℕ). down a * x) (product-is b c .0), ap (λ (x : ℕ). down a * x) (product-is b c .1))
+assoc a b c = omega (
+  arith,
+  ints,
+  ap (λ (x : ℕ). x * up c) (product-is a b .0),
+  ap (λ (x : ℕ). x * up c) (product-is a b .1),
+  ap (λ (x : ℕ). x * down c) (product-is a b .0),
+  ap (λ (x : ℕ). x * down c) (product-is a b .1),
+  ap (λ (x : ℕ). up a * x) (product-is b c .0),
+  ap (λ (x : ℕ). up a * x) (product-is b c .1),
+  ap (λ (x : ℕ). down a * x) (product-is b c .0),
+  ap (λ (x : ℕ). down a * x) (product-is b c .1),
+)
 
 pub left-comm : (a b c : ℤ) → a *ℤ (b *ℤ c) ≡ b *ℤ (a *ℤ c)
 left-comm a b c = sym (assoc a b c) ∙ ap (λ x. x *ℤ c) (*ℤ-comm a b) ∙ assoc b a c
@@ -52,6 +59,7 @@ pub two-r : (a : ℤ) → a *ℤ pos 2 ≡ a +ℤ a
 two-r a = omega (arith, ints)
 
 pub ruleset ring = (one-l, one-r, two-l, two-r, distrib-l, distrib-r, neg-l, neg-r, assoc, *ℤ-comm, left-comm)
+
 pub ruleset lin = (same-out, apart-out, lt-out, le-out, same-in, below-in, at-most-in, sum-is, neg-is, scale-l, scale-r)
 
 -- an order times a number that is not negative

@@ -46,8 +46,10 @@ two-ways m t b r P k l e = (to, from (decLt 0 b))
   where
     one : (r -ℤ P) modulo m ≡ b
     one = modulo-is m (r -ℤ P) k b l e
+
     two : 0 < b → (P -ℤ r) modulo m ≡ m - b
     two h = let f : P -ℤ r ≡ negℤ (r -ℤ P) = omega (arith, lin) in rw f (other-way m b (r -ℤ P) k h l e)
+
     to : (b ≤ t) ⊎ (m - b ≤ t) → distance m r P ≤ t
     to (inl h) = omega (arith, one)
     to (inr h) = beyond (decLt 0 b)
@@ -55,6 +57,7 @@ two-ways m t b r P k l e = (to, from (decLt 0 b))
         beyond : Dec (0 < b) → distance m r P ≤ t
         beyond (yes p) = omega (arith, two p)
         beyond (no p) = omega (arith, one)
+
     from : Dec (0 < b) → distance m r P ≤ t → (b ≤ t) ⊎ (m - b ≤ t)
     from (yes p) h = pick (decLe b t)
       where
@@ -67,4 +70,4 @@ two-ways m t b r P k l e = (to, from (decLt 0 b))
 pub way-ahead : (m t r o : ℕ) (P : ℤ) → 0 < m → o ≡ P modulo m → (((r + (m - o)) % m ≤ t) ⊎ (m - (r + (m - o)) % m ≤ t)) ↔ Allows m t r P
 way-ahead m t r o P h e =
     two-ways m t ((r + (m - o)) % m) (pos r) P (pos ((r + (m - o)) / m) -ℤ pos 1 -ℤ divEuclid P (pos m)) (mod-lt (r + (m - o)) h)
-      (simp ring (omega (arith, lin, div-add-mod (r + (m - o)) m, split P m h, e)))
+    (simp ring (omega (arith, lin, div-add-mod (r + (m - o)) m, split P m h, e)))

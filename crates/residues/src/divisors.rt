@@ -42,7 +42,10 @@ pub fn euclid(a: u32, m: u32) -> Option<Shared>
         at_high = at_rest;
         at_rest = after;
     }
-    Some(Shared { divisor: high, cofactor: at_high as u32 })
+    Some(Shared {
+        divisor: high,
+        cofactor: at_high as u32,
+    })
 }
 
 /// The greatest common divisor; of 0 and `b` it is `b`.

@@ -44,8 +44,9 @@ room u gs k w a h e =
 
 pub agreed-all : (gs : List ℕ) (qs : List ℤ) (k : ℕ) (ds : List ℕ) (y w : ℕ) → k ≡ length gs → ((i : ℕ) → i < length gs → 0 < getD gs i 0) → Agreed gs qs k ds y w → Agreeing gs qs y
 agreed-all gs qs k ds y w e p a = record {
-    below = omega (arith, a .under, a .weight-is, ap product (take-all k gs (omega arith)));
-    agree = λ i h. let (j, f) = a .agrees i (omega arith) in modulo-is (getD gs i 0) (pos y -ℤ getD qs i (pos 0)) j 0 (p i h) (omega (arith, lin, f)) }
+  below = omega (arith, a .under, a .weight-is, ap product (take-all k gs (omega arith)));
+  agree = λ i h. let (j, f) = a .agrees i (omega arith) in modulo-is (getD gs i 0) (pos y -ℤ getD qs i (pos 0)) j 0 (p i h) (omega (arith, lin, f));
+}
 
 -- w more of d changes nothing modulo a divisor of w
 still : (g w v : ℕ) (y d : ℕ) (q : ℤ) → w ≡ g * v → Same (pos g) (pos y) q → Same (pos g) (pos (y + w * d)) q
@@ -72,11 +73,12 @@ module _ (gs : List ℕ) (qs : List ℤ) (k : ℕ) (ds : List ℕ) (y w d : ℕ)
 
   pub agreed-more : d < getD gs k 0 → Same (pos (getD gs k 0)) (pos (y + w * d)) (getD qs k (pos 0)) → Agreed gs qs (k + 1) (set ds k d) (y + w * d) (w * getD gs k 0)
   agreed-more l s = record {
-      places = simp length-set (a .places);
-      weight-is = rw add-one (ap (λ (z : ℕ). z * getD gs k 0) (a .weight-is) ∙ sym (product-more gs k h));
-      units-are = units-more;
-      under = omega (arith, a .under, mul-le-mul-left w l);
-      agrees = below-more _ _ kept s }
+    places = simp length-set (a .places);
+    weight-is = rw add-one (ap (λ (z : ℕ). z * getD gs k 0) (a .weight-is) ∙ sym (product-more gs k h));
+    units-are = units-more;
+    under = omega (arith, a .under, mul-le-mul-left w l);
+    agrees = below-more _ _ kept s;
+  }
 
   -- the digit that is left of quotient k once the earlier ones are peeled off
   pub digit-agrees : (is : List ℕ) (x : ℕ) → 0 < getD gs k 0 → length is ≡ k → ((j : ℕ) → j < k → (getD gs j 0 * getD is j 0) % getD gs k 0 ≡ 1)
@@ -87,4 +89,4 @@ module _ (gs : List ℕ) (qs : List ℤ) (k : ℕ) (ds : List ℕ) (y w d : ℕ)
       let back = peeled-back (getD gs k 0) (take k gs) is (take k ds) x p (e ∙ sym n) (m ∙ sym n) (λ j l. let jk : j < k = omega arith in rw getD-take (inv j jk)) in
       let same : y + w * d ≡ mixed (take k gs) (take k ds) + product (take k gs) * peeled (getD gs k 0) x is (take k ds) = omega (arith, a .units-are, ap (λ (z : ℕ). z * d) (a .weight-is), ap (λ (z : ℕ). product (take k gs) * z) g) in
       same-trans (pos (getD gs k 0)) (pos (y + w * d)) (pos x) (getD qs k (pos 0)) (back .0, ap pos same ∙ back .1)
-        (subst (λ z. Same (pos (getD gs k 0)) (pos z) (getD qs k (pos 0))) (sym f) (same-modulo (getD gs k 0) (getD qs k (pos 0)) p))
+      (subst (λ z. Same (pos (getD gs k 0)) (pos z) (getD qs k (pos 0))) (sym f) (same-modulo (getD gs k 0) (getD qs k (pos 0)) p))

@@ -44,7 +44,7 @@ module _ (R : ℕ) (lo hi : ℤ) (size : ℕ) (p : 0 < R) (few : size ≤ R) (s 
       let (k, f) = same-modulo R lo p in
       let small : x < size = omega (arith, lin, e, h, s) in
       let i : (P -ℤ pos (lo modulo R)) modulo R ≡ x =
-            modulo-is R (P -ℤ pos (lo modulo R)) (negℤ w -ℤ k) x (omega arith) (away P lo (pos (lo modulo R)) w k (pos x) (pos R) e f) in
+      modulo-is R (P -ℤ pos (lo modulo R)) (negℤ w -ℤ k) x (omega arith) (away P lo (pos (lo modulo R)) w k (pos x) (pos R) e f) in
       omega (arith, i, small)
     where
       away : (P lo st w k x R : ℤ) → P +ℤ w *ℤ R ≡ lo +ℤ x → st ≡ lo +ℤ k *ℤ R → P -ℤ st ≡ (negℤ w -ℤ k) *ℤ R +ℤ x

@@ -32,13 +32,19 @@ use Rattle.unfolding.proofs.Turning.{folds-well}
 -- equal numbers have the same extremes and sums
 pub greatest-same : (n : ℕ) (f g : ℕ → ℤ) (x : ℤ) (k : ℕ) → ((i : ℕ) → i < n → f i ≡ g i) → Greatest-at n f x k → Greatest-at n g x k
 greatest-same n f g x k e h = record {
-    within = h .within; gives = sym (e k (h .within)) ∙ h .gives;
-    most = λ i l. subst (λ z. z ≤ℤ x) (e i l) (h .most i l); lowest = λ i l. subst (λ z. z <ℤ x) (e i (omega (arith, h .within))) (h .lowest i l) }
+  within = h .within;
+  gives = sym (e k (h .within)) ∙ h .gives;
+  most = λ i l. subst (λ z. z ≤ℤ x) (e i l) (h .most i l);
+  lowest = λ i l. subst (λ z. z <ℤ x) (e i (omega (arith, h .within))) (h .lowest i l);
+}
 
 pub least-same : (n : ℕ) (f g : ℕ → ℤ) (x : ℤ) (k : ℕ) → ((i : ℕ) → i < n → f i ≡ g i) → Least-at n f x k → Least-at n g x k
 least-same n f g x k e h = record {
-    within = h .within; gives = sym (e k (h .within)) ∙ h .gives;
-    least = λ i l. subst (λ z. x ≤ℤ z) (e i l) (h .least i l); lowest = λ i l. subst (λ z. x <ℤ z) (e i (omega (arith, h .within))) (h .lowest i l) }
+  within = h .within;
+  gives = sym (e k (h .within)) ∙ h .gives;
+  least = λ i l. subst (λ z. x ≤ℤ z) (e i l) (h .least i l);
+  lowest = λ i l. subst (λ z. x <ℤ z) (e i (omega (arith, h .within))) (h .lowest i l);
+}
 
 pub total-same : (n : ℕ) (f g : ℕ → ℤ) → ((i : ℕ) → i < n → f i ≡ g i) → total n f ≡ total n g
 total-same zero f g e = refl
@@ -92,8 +98,17 @@ module _ (u : ℕ) (gs rs ts : List ℕ) (a : Accepted u gs) (fine : All-fine u 
         let g′ = lo-at lo k g in
         let h′ = hi-at hi l h in
         record {
-          checked = fine; n = d .first-folds; folds-well = well; lo = lo; hi = hi; lo-at = g′; hi-at = h′; exceeds = over; excess-is = e;
-          none = none u gs rs ts a (d .first-folds) (d .turns) (λ i m. fine .fine i m .narrow) lo hi k l g′ h′ over }
+          checked = fine;
+          n = d .first-folds;
+          folds-well = well;
+          lo = lo;
+          hi = hi;
+          lo-at = g′;
+          hi-at = h′;
+          exceeds = over;
+          excess-is = e;
+          none = none u gs rs ts a (d .first-folds) (d .turns) (λ i m. fine .fine i m .narrow) lo hi k l g′ h′ over;
+        }
     contradicted lo hi over (Readings c k) x = absurd x
     contradicted lo hi over (Bounds c k) x = absurd x
     contradicted lo hi over (WideBound k y m) x = absurd x
@@ -111,15 +126,24 @@ module _ (u : ℕ) (gs rs ts : List ℕ) (a : Accepted u gs) (fine : All-fine u 
         let narrow : (i : ℕ) → i < length gs → 4 * getD ts i 0 < u = λ i m. fine .fine i m .narrow in
         let mean′ : w .mean ≡ rounded-mean u gs rs n modulo range-of u gs = mean ∙ ap (λ z. z modulo range-of u gs) mean-is in
         record {
-          checked = fine; n = n;
+          checked = fine;
+          n = n;
           quotients-are = ap quotients-of same ∙ front-is (quotient-at u rs) (f .quotients) (f .count) (length gs) (d .counted) q-places (a .counted .1) (d .quotients-are);
           folds-well = well;
           folds-are = ap folds-of same ∙ front-is (fold-at u gs rs n) (f .folds) (f .count) (length gs) (d .counted) f-places (a .counted .1) (d .folds-are);
           unfolded-are = ap unfolded-of same ∙ front-is (unfolded-at u gs rs n) (f .unfolded) (f .count) (length gs) (d .counted) places (a .counted .1) (d .unfolded-are);
           robust = robust u gs rs a n (d .turns);
-          lo-channel = k; lo-is = g; hi-channel = l; hi-is = h; in-order = order; start-is = start; count-is = count; mean-is = mean′;
+          lo-channel = k;
+          lo-is = g;
+          hi-channel = l;
+          hi-is = h;
+          in-order = order;
+          start-is = start;
+          count-is = count;
+          mean-is = mean′;
           narrow = narrow-enough u gs rs ts a n (d .turns) narrow (w .ends .0) (w .ends .1) k l g h (w .count) order count;
           exact = subst (λ z. Exact (range-of u gs) z (w .count) (Allowed u gs rs ts)) (sym start) (exact u gs rs ts a n (d .turns) narrow (w .ends .0) (w .ends .1) k l g h (w .count) order count);
           mean-near = subst (λ z. Mean-near (range-of u gs) z (w .count) (w .mean) ts) (sym start)
-            (subst (λ z. Mean-near (range-of u gs) (w .ends .0 modulo range-of u gs) (w .count) z ts) (sym mean′)
-              (mean-near u gs rs ts a n (d .turns) narrow (w .ends .0) (w .ends .1) k l g h (w .count) order count (fine .paired .bounds-paired))) }
+              (subst (λ z. Mean-near (range-of u gs) (w .ends .0 modulo range-of u gs) (w .count) z ts) (sym mean′)
+              (mean-near u gs rs ts a n (d .turns) narrow (w .ends .0) (w .ends .1) k l g h (w .count) order count (fine .paired .bounds-paired)));
+        }

@@ -57,15 +57,17 @@ module _ (u : ℕ) (gs rs ts : List ℕ) (a : Accepted u gs) (n : ℕ) (t : Turn
 
     pub exact : Exact (range-of u gs) (lo modulo range-of u gs) size (Allowed u gs rs ts)
     exact = record {
-        starts = split lo (range-of u gs) (range-pos u gs a) .1;
-        some = one lo hi size order size-is;
-        once = once;
-        holds = λ p b. (
-          (λ x. let (w, m, o) = to-between (range-of u gs) lo hi size (range-pos u gs a) once size-is (pos p) x in
-                from-cover u gs rs ts n a (pos p) (pos p +ℤ w *ℤ pos (range-of u gs)) w refl (covering (pos p +ℤ w *ℤ pos (range-of u gs)) m o)),
-          (λ x. let (w, c) = to-cover u gs rs ts n a t narrow (pos p) x in
-                let (m, o) = covered (pos p +ℤ w *ℤ pos (range-of u gs)) c in
-                from-between (range-of u gs) lo hi size (range-pos u gs a) once size-is (pos p) (w, m, o))) }
+      starts = split lo (range-of u gs) (range-pos u gs a) .1;
+      some = one lo hi size order size-is;
+      once = once;
+      holds = λ p b. (
+        (λ x. let (w, m, o) = to-between (range-of u gs) lo hi size (range-pos u gs a) once size-is (pos p) x in
+            from-cover u gs rs ts n a (pos p) (pos p +ℤ w *ℤ pos (range-of u gs)) w refl (covering (pos p +ℤ w *ℤ pos (range-of u gs)) m o)),
+        (λ x. let (w, c) = to-cover u gs rs ts n a t narrow (pos p) x in
+            let (m, o) = covered (pos p +ℤ w *ℤ pos (range-of u gs)) c in
+            from-between (range-of u gs) lo hi size (range-pos u gs a) once size-is (pos p) (w, m, o)),
+      );
+    }
       where
         one : (lo hi : ℤ) (size : ℕ) → lo ≤ℤ hi → pos size ≡ hi -ℤ lo +ℤ pos 1 → 1 ≤ size
         one lo hi size m e = omega (arith, lin)
@@ -79,10 +81,11 @@ module _ (u : ℕ) (gs rs ts : List ℕ) (a : Accepted u gs) (n : ℕ) (t : Turn
         let S : ℤ = total K (unfolded-at u gs rs n) in
         let k₀ : 0 < K = a .counted .0 in
         near-round (range-of u gs) T (rounded-mean u gs rs n) q (pos p) w (range-pos u gs a) refl
-          (mean-low K S (q -ℤ pos T) k₀ (total-low K (unfolded-at u gs rs n) (q -ℤ pos T) (λ k e. under (unfolded-at u gs rs n k) q (getD ts k 0) T (most k (omega arith)) (c k e .1))))
-          (mean-high K S (q +ℤ pos T) k₀ (total-high K (unfolded-at u gs rs n) (q +ℤ pos T) (λ k e. over (unfolded-at u gs rs n k) q (getD ts k 0) T (most k (omega arith)) (c k e .0))))
+        (mean-low K S (q -ℤ pos T) k₀ (total-low K (unfolded-at u gs rs n) (q -ℤ pos T) (λ k e. under (unfolded-at u gs rs n k) q (getD ts k 0) T (most k (omega arith)) (c k e .1))))
+        (mean-high K S (q +ℤ pos T) k₀ (total-high K (unfolded-at u gs rs n) (q +ℤ pos T) (λ k e. over (unfolded-at u gs rs n k) q (getD ts k 0) T (most k (omega arith)) (c k e .0))))
       where
         under : (c q : ℤ) (t T : ℕ) → t ≤ T → q ≤ℤ (c +ℤ pos t) → (q -ℤ pos T) ≤ℤ c
         under c q t T e f = omega (arith, lin)
+
         over : (c q : ℤ) (t T : ℕ) → t ≤ T → (c -ℤ pos t) ≤ℤ q → c ≤ℤ (q +ℤ pos T)
         over c q t T e f = omega (arith, lin)

@@ -29,7 +29,8 @@ agreeing = record {
   folding-is = record { turns = record { below = lit< tt; agree = three-of _ refl refl refl }; quotients-as = refl; folds-as = refl; unfolded-as = refl };
   ends-are = record {
     lo-as = greatest tt refl tt tt tt (below-none _);
-    hi-as = least tt refl tt tt tt (one-of _ (record { lt = tt })) };
+    hi-as = least tt refl tt tt tt (one-of _ (record { lt = tt }));
+  };
   bracket-is = record { starts-as = refl; counts-as = refl; mean-as = refl; positions-as = refl };
 }
 
@@ -38,7 +39,8 @@ quotient-below-zero = record {
   folding-is = record { turns = record { below = lit< tt; agree = three-of _ refl refl refl }; quotients-as = refl; folds-as = refl; unfolded-as = refl };
   ends-are = record {
     lo-as = greatest tt refl tt tt tt (two-of _ (record { lt = tt }) (record { lt = tt }));
-    hi-as = least tt refl tt tt tt (one-of _ (record { lt = tt })) };
+    hi-as = least tt refl tt tt tt (one-of _ (record { lt = tt }));
+  };
   bracket-is = record { starts-as = refl; counts-as = refl; mean-as = refl; positions-as = refl };
 }
 
@@ -47,7 +49,8 @@ one-position-left = record {
   folding-is = record { turns = record { below = lit< tt; agree = three-of _ refl refl refl }; quotients-as = refl; folds-as = refl; unfolded-as = refl };
   ends-are = record {
     lo-as = greatest tt refl tt tt tt (below-none _);
-    hi-as = least tt refl tt tt tt (two-of _ (record { lt = tt }) (record { lt = tt })) };
+    hi-as = least tt refl tt tt tt (two-of _ (record { lt = tt }) (record { lt = tt }));
+  };
   bracket-is = record { starts-as = refl; counts-as = refl; mean-as = refl; positions-as = refl };
 }
 
@@ -56,7 +59,8 @@ contradicted-by-one = record {
   turns = record { below = lit< tt; agree = three-of _ refl refl refl };
   ends-are = record {
     lo-as = greatest tt refl tt tt tt (below-none _);
-    hi-as = least tt refl tt tt tt (two-of _ (record { lt = tt }) (record { lt = tt })) };
+    hi-as = least tt refl tt tt tt (two-of _ (record { lt = tt }) (record { lt = tt }));
+  };
   none = refl;
 }
 
@@ -65,7 +69,8 @@ contradicted-by-the-last = record {
   turns = record { below = lit< tt; agree = three-of _ refl refl refl };
   ends-are = record {
     lo-as = greatest tt refl tt tt tt (two-of _ (record { lt = tt }) (record { lt = tt }));
-    hi-as = least tt refl tt tt tt (one-of _ (record { lt = tt })) };
+    hi-as = least tt refl tt tt tt (one-of _ (record { lt = tt }));
+  };
   none = refl;
 }
 
@@ -74,7 +79,8 @@ plain-remainders = record {
   folding-is = record { turns = record { below = lit< tt; agree = three-of _ refl refl refl }; quotients-as = refl; folds-as = refl; unfolded-as = refl };
   ends-are = record {
     lo-as = greatest tt refl tt tt tt (below-none _);
-    hi-as = least tt refl tt tt tt (below-none _) };
+    hi-as = least tt refl tt tt tt (below-none _);
+  };
   bracket-is = record { starts-as = refl; counts-as = refl; mean-as = refl; positions-as = refl };
 }
 
@@ -83,12 +89,18 @@ folded-below-zero = record {
   folding-is = record { turns = record { below = lit< tt; agree = three-of _ refl refl refl }; quotients-as = refl; folds-as = refl; unfolded-as = refl };
   ends-are = record {
     lo-as = greatest tt refl tt tt tt (below-none _);
-    hi-as = least tt refl tt tt tt (one-of _ (record { lt = tt })) };
+    hi-as = least tt refl tt tt tt (one-of _ (record { lt = tt }));
+  };
   bracket-is = record { starts-as = refl; counts-as = refl; mean-as = refl; positions-as = refl };
 }
 
 pub worked : Worked
 worked = record {
-  agreeing = agreeing; quotient-below-zero = quotient-below-zero; one-position-left = one-position-left; contradicted-by-one = contradicted-by-one;
-  contradicted-by-the-last = contradicted-by-the-last; plain-remainders = plain-remainders; folded-below-zero = folded-below-zero;
+  agreeing = agreeing;
+  quotient-below-zero = quotient-below-zero;
+  one-position-left = one-position-left;
+  contradicted-by-one = contradicted-by-one;
+  contradicted-by-the-last = contradicted-by-the-last;
+  plain-remainders = plain-remainders;
+  folded-below-zero = folded-below-zero;
 }

@@ -42,11 +42,12 @@ module _ (u : ℕ) (gs rs ts : List ℕ) (n : ℕ) where
         let c : ℤ = unfolded-at u gs rs n k in
         let turns : range-of u gs ≡ modulus-at u gs k * v = omega (arith, ap (λ (z : ℕ). u * z) f) in
         from-error (modulus-at u gs k) (getD ts k 0) (pos (getD rs k 0)) P (c -ℤ q) (w *ℤ pos v -ℤ fold-at u gs rs n k) (modulus-pos u gs a k h)
-          (back c (fold-at u gs rs n k) (pos (modulus-at u gs k)) (pos (getD rs k 0)) P q w (pos (range-of u gs)) (pos v) refl e (ap pos turns))
-          (over c q (getD ts k 0) (cover k h .1)) (under c q (getD ts k 0) (cover k h .0))
+        (back c (fold-at u gs rs n k) (pos (modulus-at u gs k)) (pos (getD rs k 0)) P q w (pos (range-of u gs)) (pos v) refl e (ap pos turns))
+        (over c q (getD ts k 0) (cover k h .1)) (under c q (getD ts k 0) (cover k h .0))
       where
         over : (c q : ℤ) (t : ℕ) → q ≤ℤ (c +ℤ pos t) → negℤ (pos t) ≤ℤ (c -ℤ q)
         over c q t h = omega (arith, lin)
+
         under : (c q : ℤ) (t : ℕ) → (c -ℤ pos t) ≤ℤ q → (c -ℤ q) ≤ℤ pos t
         under c q t h = omega (arith, lin)
 
@@ -60,6 +61,7 @@ module _ (u : ℕ) (gs rs ts : List ℕ) (n : ℕ) where
         where
           above : (u t : ℕ) (e : ℤ) → 4 * t < u → negℤ (pos t) ≤ℤ e → negℤ (pos u) <ℤ (pos 4 *ℤ e)
           above u t e h l = omega (arith, lin)
+
           below : (u t : ℕ) (e : ℤ) → 4 * t < u → e ≤ℤ pos t → (pos 4 *ℤ e) <ℤ pos u
           below u t e h l = omega (arith, lin)
       error-at P allowed k (no h) = (pos 0, λ l. absurd (h l))
@@ -67,7 +69,7 @@ module _ (u : ℕ) (gs rs ts : List ℕ) (n : ℕ) where
       pub to-cover : (P : ℤ) → Allowed u gs rs ts P → (w : ℤ) × Covers (P +ℤ w *ℤ pos (range-of u gs))
       to-cover P allowed =
           let errors : (k : ℕ) → (e : ℤ) × (k < length gs → Reads-near u (modulus-at u gs k) (getD rs k 0) P e × (negℤ (pos (getD ts k 0)) ≤ℤ e) × (e ≤ℤ pos (getD ts k 0))) =
-                λ k. error-at P allowed k (decLt k (length gs)) in
+          λ k. error-at P allowed k (decLt k (length gs)) in
           let (w, off) = robust u gs rs a n t P (λ k. errors k .0) (λ k h. errors k .1 h .0) in
           (w, λ k h. cover (unfolded-at u gs rs n k) P (errors k .0) (w *ℤ pos (range-of u gs)) (getD ts k 0) (off k h) (errors k .1 h .1) (errors k .1 h .2))
         where

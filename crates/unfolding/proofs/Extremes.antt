@@ -65,7 +65,11 @@ least-more n f x y m e v (i, g) = go (decided y x)
 -- the first channel that gives the extreme is the lowest one
 pub greatest-first : (n : ℕ) (f : ℕ → ℤ) (x : ℤ) (k : ℕ) → ((i : ℕ) × Greatest-at n f x i) → k < n → f k ≡ x → ((i : ℕ) → i < k → f i ≡ x → ⊥) → Greatest-at n f x k
 greatest-first n f x k (i, g) h e none = record {
-    within = h; gives = e; most = g .most; lowest = λ j l. below (f j) x (g .most j (omega arith)) (none j l) }
+  within = h;
+  gives = e;
+  most = g .most;
+  lowest = λ j l. below (f j) x (g .most j (omega arith)) (none j l);
+}
   where
     below : (a b : ℤ) → a ≤ℤ b → (a ≡ b → ⊥) → a <ℤ b
     below a b h apart = go (decided a b)
@@ -76,7 +80,11 @@ greatest-first n f x k (i, g) h e none = record {
 
 pub least-first : (n : ℕ) (f : ℕ → ℤ) (x : ℤ) (k : ℕ) → ((i : ℕ) × Least-at n f x i) → k < n → f k ≡ x → ((i : ℕ) → i < k → f i ≡ x → ⊥) → Least-at n f x k
 least-first n f x k (i, g) h e none = record {
-    within = h; gives = e; least = g .least; lowest = λ j l. above x (f j) (g .least j (omega arith)) (none j l) }
+  within = h;
+  gives = e;
+  least = g .least;
+  lowest = λ j l. above x (f j) (g .least j (omega arith)) (none j l);
+}
   where
     above : (a b : ℤ) → a ≤ℤ b → (b ≡ a → ⊥) → a <ℤ b
     above a b h apart = go (decided a b)

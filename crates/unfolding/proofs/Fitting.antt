@@ -29,9 +29,10 @@ module _ (u : ℕ) (rs : List ℕ) (p : 0 < u) (few : u ≤ 2 ^ 24) (small : (k 
   twice k = pos 2 *ℤ (pos (getD rs k 0) -ℤ pos (getD rs 0 0)) +ℤ pos u
 
   pub quotient-fits : (k : ℕ) → From-to (2 ^ 40) (quotient-at u rs k)
-  quotient-fits k =
-      (at-most (2 * u) (twice k) (quotient-at u rs k) (negℤ (pos (2 ^ 40))) (omega (arith, lin, small k, small 0)) (floor-high (twice k) (2 * u) (omega arith)),
-       at-most (2 * u) (twice k) (pos (2 ^ 40)) (quotient-at u rs k) (floor-low (twice k) (2 * u) (omega arith)) (omega (arith, lin, small k, small 0)))
+  quotient-fits k = (
+    at-most (2 * u) (twice k) (quotient-at u rs k) (negℤ (pos (2 ^ 40))) (omega (arith, lin, small k, small 0)) (floor-high (twice k) (2 * u) (omega arith)),
+    at-most (2 * u) (twice k) (pos (2 ^ 40)) (quotient-at u rs k) (floor-low (twice k) (2 * u) (omega arith)) (omega (arith, lin, small k, small 0)),
+  )
 
   pub units-fit : (k : ℕ) → From-to (2 ^ 34) (pos u *ℤ quotient-at u rs k)
   units-fit k =

@@ -38,15 +38,20 @@ turns-of-code fs qs y k = divEuclid (pos y -ℤ getD qs k (pos 0)) (pos (getD fs
 -- a front of the quotients agrees where all of them do
 pub agreeing-front : (gs : List ℕ) (qs : List ℤ) (n y : ℕ) → n ≡ length gs → Agreeing gs (take n qs) y → Agreeing gs qs y
 agreeing-front gs qs n y e g = record {
-    below = g .below;
-    agree = λ k h. let l : k < n = omega arith in subst (λ z. (pos y -ℤ z) modulo getD gs k 0 ≡ 0) (getD-take n qs k (pos 0) l) (g .agree k h) }
+  below = g .below;
+  agree = λ k h. let l : k < n = omega arith in subst (λ z. (pos y -ℤ z) modulo getD gs k 0 ≡ 0) (getD-take n qs k (pos 0) l) (g .agree k h);
+}
 
 pub knowing : (u v : ℕ) (gs rs fs ms : List ℕ) (qs : List ℤ) (y : ℕ) → Accepted u gs → ((k : ℕ) → getD rs k 0 < 2 ^ 32) → fs ≡ gs → ((k : ℕ) → k < length gs → getD ms k 0 ≡ modulus-at u gs k)
     → v ≡ u → length rs ≡ length gs → ((k : ℕ) → k < length rs → getD qs k (pos 0) ≡ quotient-at v rs k) → Agreeing gs (take (length rs - 0) qs) y → Known u gs rs fs ms qs y
 knowing u v gs rs fs ms qs y a small f m e l q g = record {
-    accepted = a; small = small; factors-are = f; moduli-are = m;
-    quotients-are = λ k h. q k (omega arith) ∙ ap (λ w. quotient-at w rs k) e;
-    units-agree = agreeing-front gs qs (length rs - 0) y (omega arith) g }
+  accepted = a;
+  small = small;
+  factors-are = f;
+  moduli-are = m;
+  quotients-are = λ k h. q k (omega arith) ∙ ap (λ w. quotient-at w rs k) e;
+  units-agree = agreeing-front gs qs (length rs - 0) y (omega arith) g;
+}
 
 module _ (u : ℕ) (gs rs fs ms : List ℕ) (qs : List ℤ) (y : ℕ) (n : Known u gs rs fs ms qs y) where
   pub foldable : (k : ℕ) → k < length gs → SFits w64 (getD qs k (pos 0))
@@ -54,7 +59,7 @@ module _ (u : ℕ) (gs rs fs ms : List ℕ) (qs : List ℤ) (y : ℕ) (n : Known
   foldable k h f =
       let a = n .accepted in
       let q : From-to (2 ^ 40) (toZ w64 (ofZ w64 (getD qs k (pos 0)))) =
-            subst (From-to (2 ^ 40)) (sym (toZ-ofZ w64 (getD qs k (pos 0)) f ∙ n .quotients-are k h)) (quotient-fits u rs (a .unit-fits .0) (a .unit-fits .1) (n .small) k) in
+      subst (From-to (2 ^ 40)) (sym (toZ-ofZ w64 (getD qs k (pos 0)) f ∙ n .quotients-are k h)) (quotient-fits u rs (a .unit-fits .0) (a .unit-fits .1) (n .small) k) in
       (units-few u gs rs a (n .small) qs y (n .quotients-are) (n .units-agree), (q .0, (q .1, subst (λ xs. 0 < getD xs k 0) (sym (n .factors-are)) (factors-pos u gs a k h))))
 
   -- an unfolded reading's part from its folds
@@ -62,7 +67,7 @@ module _ (u : ℕ) (gs rs fs ms : List ℕ) (qs : List ℤ) (y : ℕ) (n : Known
   turns-fit k h =
       let f = fold-fits u gs rs (n .accepted) (n .small) qs y (n .quotients-are) (n .units-agree) k h in
       subst (λ xs. From-to (2 ^ 41) (divEuclid (pos y -ℤ getD qs k (pos 0)) (pos (getD xs k 0)) *ℤ pos (getD ms k 0))) (sym (n .factors-are))
-        (subst (λ m. From-to (2 ^ 41) (divEuclid (pos y -ℤ getD qs k (pos 0)) (pos (getD gs k 0)) *ℤ pos m)) (sym (n .moduli-are k h)) f)
+      (subst (λ m. From-to (2 ^ 41) (divEuclid (pos y -ℤ getD qs k (pos 0)) (pos (getD gs k 0)) *ℤ pos m)) (sym (n .moduli-are k h)) f)
 
   -- the code's numbers are those of the definitions
   turns-are : (m : ℕ) → y ≡ m * getD gs 0 0 → (k : ℕ) → k < length gs → turns-of-code fs qs y k ≡ fold-at u gs rs m k
@@ -75,12 +80,15 @@ module _ (u : ℕ) (gs rs fs ms : List ℕ) (qs : List ℤ) (y : ℕ) (n : Known
   folded f c q folds unfolded =
       let (m, e, t) = turns-of u gs rs (n .accepted) qs y (n .quotients-are) (n .units-agree) in
       record {
-        counted = c; first-folds = m; turns = t;
+        counted = c;
+        first-folds = m;
+        turns = t;
         quotients-are = λ k h. ap (λ xs. getD xs k (pos 0)) q ∙ n .quotients-are k h;
         folds-are = λ k h. folds k h ∙ turns-are m e k h;
         unfolded-are = λ k h. unfolded k h ∙ ap (λ z. z *ℤ pos (getD ms k 0) +ℤ pos (getD rs k 0)) (turns-are m e k h)
-          ∙ ap (λ x. fold-at u gs rs m k *ℤ pos x +ℤ pos (getD rs k 0)) (n .moduli-are k h);
-        moderate = λ k h. moderate-sum (getD (f .unfolded) k (pos 0)) (turns-of-code fs qs y k *ℤ pos (getD ms k 0)) (getD rs k 0) (unfolded k h) (turns-fit k h) (n .small k) }
+            ∙ ap (λ x. fold-at u gs rs m k *ℤ pos x +ℤ pos (getD rs k 0)) (n .moduli-are k h);
+        moderate = λ k h. moderate-sum (getD (f .unfolded) k (pos 0)) (turns-of-code fs qs y k *ℤ pos (getD ms k 0)) (getD rs k 0) (unfolded k h) (turns-fit k h) (n .small k);
+      }
     where
       moderate-sum : (c z : ℤ) (r : ℕ) → c ≡ z +ℤ pos r → From-to (2 ^ 41) z → r < 2 ^ 32 → (negℤ (pos (2 ^ 42)) ≤ℤ c) × (c ≤ℤ pos (2 ^ 42))
       moderate-sum c z r e (l, h) s = (omega (arith, lin), omega (arith, lin))

@@ -64,7 +64,7 @@ peeled-back g (h ∷ gs) (i ∷ is) (d ∷ ds) x p e f inv =
     let x′ : ℕ = peel g x d i in
     let rest = peeled-back g gs is ds x′ p (omega arith) (omega arith) (λ j l. inv (suc j) (omega arith)) in
     let (k, r) = same-trans (pos g) (pos (d + h * (mixed gs ds + product gs * peeled g x′ is ds))) (pos (d + h * x′)) (pos x)
-          (under (pos g) (pos h) (pos d) (pos (mixed gs ds + product gs * peeled g x′ is ds)) (pos x′) rest) (step-back g h i d x p (inv 0 (omega arith))) in
+    (under (pos g) (pos h) (pos d) (pos (mixed gs ds + product gs * peeled g x′ is ds)) (pos x′) rest) (step-back g h i d x p (inv 0 (omega arith))) in
     (k, ap pos (omega arith) ∙ r)
 
 -- one digit more at the top

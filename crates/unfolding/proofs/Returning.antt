@@ -42,7 +42,7 @@ module _ (u : ℕ) (gs rs ts : List ℕ) (a : Accepted u gs) where
   allowed N rem k h =
       let m : ℕ = modulus-at u gs k in
       from-error m (getD ts k 0) (pos (getD rs k 0)) (pos N) (pos 0) (negℤ (pos (N / m))) (modulus-pos u gs a k h)
-        (ap pos (rem k h) ∙ turned N m) (omega (arith, lin)) (omega (arith, lin))
+      (ap pos (rem k h) ∙ turned N m) (omega (arith, lin)) (omega (arith, lin))
     where
       turned : (N m : ℕ) → pos (N % m) ≡ pos N +ℤ pos 0 +ℤ negℤ (pos (N / m)) *ℤ pos m
       turned N m = simp ring (omega (arith, lin, div-add-mod N m))
@@ -52,10 +52,11 @@ module _ (u : ℕ) (gs rs ts : List ℕ) (a : Accepted u gs) where
       let o : 0 < length gs = a .counted .0 in
       let paired : length ts ≡ length gs = f .checked .paired .bounds-paired in
       let here : In-bracket (range-of u gs) (w .start) (w .count) (pos (w .start)) =
-            subst (λ (x : ℕ). x < w .count) (sym (modulo-is (range-of u gs) (pos (w .start) -ℤ pos (w .start)) (pos 0) 0 (omega (arith, f .exact .starts)) (omega (arith, lin)))) (f .exact .some) in
+      subst (λ (x : ℕ). x < w .count) (sym (modulo-is (range-of u gs) (pos (w .start) -ℤ pos (w .start)) (pos 0) 0 (omega (arith, f .exact .starts)) (omega (arith, lin)))) (f .exact .some) in
       record {
         alone = one (getD ts 0 0) (w .count) (unfolded-at u gs rs (f .n) 0) (w .ends .0) (w .ends .1) (zero-bounds 0 (omega arith)) (f .lo-is .most 0 o) (f .hi-is .least 0 o) (f .count-is) (f .exact .some);
-        its-remainders = λ k h. exactly k (w .start) h (f .checked .fine k h .tame) (zero-bounds k (omega arith)) (f .exact .holds (w .start) (f .exact .starts) .0 here k h) }
+        its-remainders = λ k h. exactly k (w .start) h (f .checked .fine k h .tame) (zero-bounds k (omega arith)) (f .exact .holds (w .start) (f .exact .starts) .0 here k h);
+      }
     where
       one : (t size : ℕ) (c lo hi : ℤ) → t ≡ 0 → (c -ℤ pos t) ≤ℤ lo → hi ≤ℤ (c +ℤ pos t) → pos size ≡ hi -ℤ lo +ℤ pos 1 → 1 ≤ size → size ≡ 1
       one t size c lo hi n l h e s = omega (arith, lin)

@@ -35,15 +35,18 @@ module _ (u : ℕ) (gs rs : List ℕ) (a : Accepted u gs) (n : ℕ) (t : Turns u
       let o : 0 < length gs = a .counted .0 in
       let j : (k : ℕ) → k < length gs → ℤ = λ k h. near k h .round .0 in
       let q : (k : ℕ) (h : k < length gs) → quotient-at u rs k ≡ j k h *ℤ pos (getD gs k 0) -ℤ j 0 o *ℤ pos (getD gs 0 0) = λ k h.
-            rounds u (pos (getD rs k 0) -ℤ pos (getD rs 0 0)) (j k h *ℤ pos (getD gs k 0) -ℤ j 0 o *ℤ pos (getD gs 0 0)) (error k -ℤ error 0) (a .unit-fits .0)
-              (apart-by (pos u) (pos (getD gs k 0)) (pos (getD gs 0 0)) (j k h) (j 0 o) N (error k) (error 0) (pos (getD rs k 0)) (pos (getD rs 0 0)) (near k h .round .1) (near 0 o .round .1))
-              (small-low u (error k) (error 0) (near k h .above) (near 0 o .below)) (small-high u (error k) (error 0) (near k h .below) (near 0 o .above)) in
+      rounds u (pos (getD rs k 0) -ℤ pos (getD rs 0 0)) (j k h *ℤ pos (getD gs k 0) -ℤ j 0 o *ℤ pos (getD gs 0 0)) (error k -ℤ error 0) (a .unit-fits .0)
+      (apart-by (pos u) (pos (getD gs k 0)) (pos (getD gs 0 0)) (j k h) (j 0 o) N (error k) (error 0) (pos (getD rs k 0)) (pos (getD rs 0 0)) (near k h .round .1) (near 0 o .round .1))
+      (small-low u (error k) (error 0) (near k h .above) (near 0 o .below)) (small-high u (error k) (error 0) (near k h .below) (near 0 o .above)) in
       let (w, e) = product-divides gs (y +ℤ j 0 o *ℤ pos (getD gs 0 0)) (a .coprime)
-            (λ k h. (fold-at u gs rs n k +ℤ j k h, divided y (pos (getD gs k 0)) (pos (getD gs 0 0)) (j k h) (j 0 o) (fold-at u gs rs n k) (quotient-at u rs k) (evenly u gs rs a n t k h) (q k h))) in
-      (w, λ k h. off-by (unfolded-at u gs rs n k) (pos u) y (pos (getD gs k 0)) (pos (getD gs 0 0)) (j k h) (j 0 o) (quotient-at u rs k) N (error k) (pos (getD rs k 0)) (pos (product gs)) w
-            (place-is u gs rs a n t k h) (q k h) (near k h .round .1) e)
+      (λ k h. (fold-at u gs rs n k +ℤ j k h, divided y (pos (getD gs k 0)) (pos (getD gs 0 0)) (j k h) (j 0 o) (fold-at u gs rs n k) (quotient-at u rs k) (evenly u gs rs a n t k h) (q k h))) in (
+        w,
+        λ k h. off-by (unfolded-at u gs rs n k) (pos u) y (pos (getD gs k 0)) (pos (getD gs 0 0)) (j k h) (j 0 o) (quotient-at u rs k) N (error k) (pos (getD rs k 0)) (pos (product gs)) w
+            (place-is u gs rs a n t k h) (q k h) (near k h .round .1) e,
+      )
     where
       small-low : (u : ℕ) (e f : ℤ) → negℤ (pos u) <ℤ (pos 4 *ℤ e) → (pos 4 *ℤ f) <ℤ pos u → negℤ (pos u) <ℤ (e -ℤ f +ℤ (e -ℤ f))
       small-low u e f h l = omega (arith, lin)
+
       small-high : (u : ℕ) (e f : ℤ) → (pos 4 *ℤ e) <ℤ pos u → negℤ (pos u) <ℤ (pos 4 *ℤ f) → (e -ℤ f +ℤ (e -ℤ f)) <ℤ pos u
       small-high u e f h l = omega (arith, lin)

@@ -63,19 +63,23 @@ module _ (u : ℕ) (gs rs : List ℕ) (a : Accepted u gs) where
       let (h, f) = agreeing n t in
       let (l, g) = agreeing m s in
       let (k, e) = product-divides gs (pos (m * getD gs 0 0) -ℤ pos (n * getD gs 0 0)) (a .coprime)
-            (λ k i. apart (getD gs k 0) (n * getD gs 0 0) (m * getD gs 0 0) (quotient-at u rs k) (factors-pos u gs a k i) (f k i) (g k i)) in
+      (λ k i. apart (getD gs k 0) (n * getD gs 0 0) (m * getD gs 0 0) (quotient-at u rs k) (factors-pos u gs a k i) (f k i) (g k i)) in
       let same : m * getD gs 0 0 ≡ n * getD gs 0 0 = close (product gs) (n * getD gs 0 0) (m * getD gs 0 0) k e h l in
       eq-of-mul-eq-mul-left (getD gs 0 0) first-pos m n (omega (arith, same))
 
   pub turns-of : (qs : List ℤ) (y : ℕ) → ((k : ℕ) → k < length gs → getD qs k (pos 0) ≡ quotient-at u rs k) → Agreeing gs qs y → (n : ℕ) × (y ≡ n * getD gs 0 0) × Turns u gs rs n
   turns-of qs y q g =
       let none : pos y -ℤ getD qs 0 (pos 0) ≡ divEuclid (pos y -ℤ getD qs 0 (pos 0)) (pos (getD gs 0 0)) *ℤ pos (getD gs 0 0) =
-            whole (pos y -ℤ getD qs 0 (pos 0)) (getD gs 0 0) first-pos (g .agree 0 (a .counted .0)) in
+      whole (pos y -ℤ getD qs 0 (pos 0)) (getD gs 0 0) first-pos (g .agree 0 (a .counted .0)) in
       let zero-is : getD qs 0 (pos 0) ≡ pos 0 = q 0 (a .counted .0) ∙ first-quotient u rs unit-pos in
-      let (n, e) = natural y (getD gs 0 0) (divEuclid (pos y -ℤ getD qs 0 (pos 0)) (pos (getD gs 0 0))) first-pos (omega (arith, lin, none, zero-is)) in
-      (n, e, record {
-        below = omega (arith, mul-lt-mul-of-pos-left {k = u} (g .below) unit-pos, ap (λ (z : ℕ). u * z) e);
-        agree = λ k h. subst (λ x. (pos x -ℤ quotient-at u rs k) modulo getD gs k 0 ≡ 0) e (subst (λ z. (pos y -ℤ z) modulo getD gs k 0 ≡ 0) (q k h) (g .agree k h)) })
+      let (n, e) = natural y (getD gs 0 0) (divEuclid (pos y -ℤ getD qs 0 (pos 0)) (pos (getD gs 0 0))) first-pos (omega (arith, lin, none, zero-is)) in (
+        n,
+        e,
+        record {
+          below = omega (arith, mul-lt-mul-of-pos-left {k = u} (g .below) unit-pos, ap (λ (z : ℕ). u * z) e);
+          agree = λ k h. subst (λ x. (pos x -ℤ quotient-at u rs k) modulo getD gs k 0 ≡ 0) e (subst (λ z. (pos y -ℤ z) modulo getD gs k 0 ≡ 0) (q k h) (g .agree k h));
+        },
+      )
     where
       natural : (y g : ℕ) (z : ℤ) → 0 < g → pos y ≡ z *ℤ pos g → (n : ℕ) × (y ≡ n * g)
       natural y g (pos n) h e = (n, omega (arith, lin, e))
@@ -114,10 +118,16 @@ module _ (u : ℕ) (gs rs : List ℕ) (a : Accepted u gs) where
         let z : ℤ = pos 2 *ℤ (pos (getD rs k 0) -ℤ pos (getD rs 0 0)) +ℤ pos u in
         let p : 0 < 2 * u = omega (arith, unit-pos) in
         let d = difference (unfolded-at u gs rs n k) (unfolded-at u gs rs n 0) (pos u) (pos (n * getD gs 0 0)) (quotient-at u rs k) (quotient-at u rs 0) (pos (getD rs k 0)) (pos (getD rs 0 0))
-              (place-is k h) (place-is 0 (a .counted .0)) (first-quotient u rs unit-pos) in
+        (place-is k h) (place-is 0 (a .counted .0)) (first-quotient u rs unit-pos) in
         half-unit u (unfolded-at u gs rs n k -ℤ unfolded-at u gs rs n 0) (quotient-at u rs k) (pos (getD rs k 0) -ℤ pos (getD rs 0 0)) d (floor-low z (2 * u) p) (floor-high z (2 * u) p)
 
     pub folds-well : ((k : ℕ) → k < length gs → getD rs k 0 < modulus-at u gs k) → Folds-well u gs rs n
     folds-well tame = record {
-        turns = t; only = λ m s. one-turns n m t s; first-is = first-fold; evenly = evenly;
-        at-least = λ k h. at-least k h (tame k h); near-low = λ k h. near k h .0; near-high = λ k h. near k h .1 }
+      turns = t;
+      only = λ m s. one-turns n m t s;
+      first-is = first-fold;
+      evenly = evenly;
+      at-least = λ k h. at-least k h (tame k h);
+      near-low = λ k h. near k h .0;
+      near-high = λ k h. near k h .1;
+    }

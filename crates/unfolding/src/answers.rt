@@ -45,7 +45,11 @@ fn bracket(ends: (i64, i64), range: u64) -> (u64, u64)
 
 /// Unfolds one reading of each channel: folding numbers, unfolded readings, the
 /// bracket of positions that every reading allows, and the mean.
-pub fn unfold(setting: &Setting, readings: &[u32], bounds: &[u32]) -> Result<Unfolding, UnfoldRefusal>
+pub fn unfold(
+    setting: &Setting,
+    readings: &[u32],
+    bounds: &[u32],
+) -> Result<Unfolding, UnfoldRefusal>
     ensures answers { λ r. ⌜ Unfold-answers (now (setting .entry)) (now (readings .entry)) (now (bounds .entry)) r ⌝ }
     ensures finds { λ r. ⌜ Finds (unit-of (now (setting .entry))) (factors-of (now (setting .entry))) (now (readings .entry)) (now (bounds .entry)) r ⌝ }
     ensures found { λ r. ⌜ Is-found (unit-of (now (setting .entry))) (factors-of (now (setting .entry))) (now (readings .entry)) (now (bounds .entry)) r ⌝ }
@@ -60,5 +64,11 @@ pub fn unfold(setting: &Setting, readings: &[u32], bounds: &[u32]) -> Result<Unf
     let range = setting.range();
     let (start, count) = bracket(ends, range);
     let mean = reduced(rounded(unfolded), range);
-    Ok(Unfolding { folding, ends, start, count, mean })
+    Ok(Unfolding {
+        folding,
+        ends,
+        start,
+        count,
+        mean,
+    })
 }

@@ -6,5 +6,4 @@ ghost use Rattle.unfolding.specs.Worked.{Worked};
 /// contradictions with their channels, plain remainders, and folding numbers of -1.
 pub fn worked_unfoldings()
     ensures { λ _. ⌜ Worked ⌝ }
-{
-}
+{}

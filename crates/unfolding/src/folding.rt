@@ -7,9 +7,9 @@ ghost use mathlib.Core.Path.{_≡_};
 ghost use Rattle.std.specs.Numbers.{divEuclid};
 ghost use Rattle.settings.specs.Told.{factors-of, unit-of};
 ghost use Rattle.unfolding.specs.Folded.{Folded};
+use crate::digits::agreeing_units;
 use crate::kept::Folding;
 use crate::numbers::floor;
-use crate::digits::agreeing_units;
 use crate::quotients::quotients;
 use settings::Setting;
 
@@ -46,5 +46,10 @@ pub(crate) fn fold(setting: &Setting, readings: &[u32]) -> Folding
         folds[k] = turns;
         unfolded[k] = unfolded_reading(turns, moduli[k], readings[k]);
     }
-    Folding { count, quotients, folds, unfolded }
+    Folding {
+        count,
+        quotients,
+        folds,
+        unfolded,
+    }
 }

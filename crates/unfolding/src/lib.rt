@@ -12,7 +12,7 @@ mod quotients;
 mod refusals;
 mod telling;
 
-pub use kept::Unfolding;
-pub use refusals::UnfoldRefusal;
 pub use answers::unfold;
 pub use examples::worked_unfoldings;
+pub use kept::Unfolding;
+pub use refusals::UnfoldRefusal;

@@ -1,8 +1,8 @@
 // What an unfolding tells.
 ghost use mathlib.Core.Path.{_≡_};
 ghost use Rattle.unfolding.specs.Told.{folds-of, quotients-of, unfolded-of};
-use crate::kept::Folding;
 use crate::Unfolding;
+use crate::kept::Folding;
 
 impl Folding {
     /// Each reading with its folds put back.

@@ -15,6 +15,7 @@ shorter a b t Q (to, from) = (λ x. to (pick (decLe a t) (leb→le (min a b) t x
     pick : Dec (a ≤ t) → min a b ≤ t → (a ≤ t) ⊎ (b ≤ t)
     pick (yes h) l = inl h
     pick (no h) l = inr (omega arith)
+
     least : (a ≤ t) ⊎ (b ≤ t) → min a b ≤ t
     least (inl h) = omega arith
     least (inr h) = omega arith
@@ -25,4 +26,5 @@ returns c =
     record {
       distance = λ h. rw (c .shorter-way .ensures) (shorter _ _ _ _ (way-ahead _ _ _ _ _ h o));
       errors = allows-errs _ _ _ _;
-      nowhere = λ e. absurd (omega arith) }
+      nowhere = λ e. absurd (omega arith);
+    }

@@ -10,7 +10,7 @@ loop-rest-holds c = start _ _ (omega arith)
 pub loop-rest-again : need.loop-rest-again
 loop-rest-again c =
     subst (State (c .args .a) (c .args .m) (c .loop-rest .rest) (c .loop-rest .high % c .loop-rest .rest) (c .loop-rest .at-rest)) (sym (c .less-product-after .ensures))
-      (again (c .args .a) (c .args .m) (c .loop-rest .high) (c .loop-rest .rest) (c .loop-rest .at-high) (c .loop-rest .at-rest) (omega arith) (omega arith) (c .loop-rest .inv))
+    (again (c .args .a) (c .args .m) (c .loop-rest .high) (c .loop-rest .rest) (c .loop-rest .at-high) (c .loop-rest .at-rest) (omega arith) (omega arith) (c .loop-rest .inv))
 
 pub returns : need.returns
 returns c =

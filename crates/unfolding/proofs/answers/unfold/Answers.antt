@@ -36,15 +36,17 @@ contradictory-requires c κs =
     let d = c .fold-folding .ensures in
     let cs = c .unfolded-unfolded .result .now in
     let cut = c .unfolded-unfolded .ensures in
-    let s = c .ends-ends .ensures .small in
-    ((paired _ _ _ _ a fine _ d cs cut (search needs), (moderate _ _ _ _ a fine _ d cs cut (search needs), (weaker _ _ (less-read _ _ (s .1) (s .0) (c .if-ends .taken)), (s .0, s .1)))),
-     c .ends-ends .ensures .lo, c .ends-ends .ensures .hi)
+    let s = c .ends-ends .ensures .small in (
+      (paired _ _ _ _ a fine _ d cs cut (search needs), (moderate _ _ _ _ a fine _ d cs cut (search needs), (weaker _ _ (less-read _ _ (s .1) (s .0) (c .if-ends .taken)), (s .0, s .1)))),
+      c .ends-ends .ensures .lo,
+      c .ends-ends .ensures .hi,
+    )
 
 pub returns-then-ends : need.returns-then-ends
 returns-then-ends c =
     let s = c .ends-ends .ensures .small in
     let refused = contradicted _ _ _ _ (c .check .ensures .accepted) (c .in-Continue-check .ensures tt .checked) _ (c .fold-folding .ensures) (c .unfolded-unfolded .result .now) (c .unfolded-unfolded .ensures) (search needs)
-               _ _ (less-read _ _ (s .1) (s .0) (c .if-ends .taken)) _ (c .contradictory .ensures) in
+    _ _ (less-read _ _ (s .1) (s .0) (c .if-ends .taken)) _ (c .contradictory .ensures) in
     record { answers = refused; finds = tt; found = not-refused _ _ _ _ (c .check .ensures .accepted) _ refused }
 
 pub rounded-requires : need.rounded-requires
@@ -62,9 +64,9 @@ returns c =
     let s = c .ends-ends .ensures .small in
     let range = c .range-range .ensures in
     let told = unfolds _ _ _ _ (c .check .ensures .accepted) (c .in-Continue-check .ensures tt .checked) _ (c .fold-folding .ensures) (c .unfolded-unfolded .result .now) (c .unfolded-unfolded .ensures) (search needs)
-               _ refl (search needs) (search needs) (c .ends-ends .ensures .lo) (c .ends-ends .ensures .hi) (not-less-read _ _ (s .1) (s .0) (c .if-ends .left))
-               (reduced-read (c .bracket-start .ensures .0) range refl) (c .bracket-start .ensures .1)
-               (reduced-read (c .reduced-mean .ensures) range (toZ-ofZ w64 (c .rounded .result) (search needs) ∙ c .rounded .ensures)) in
+    _ refl (search needs) (search needs) (c .ends-ends .ensures .lo) (c .ends-ends .ensures .hi) (not-less-read _ _ (s .1) (s .0) (c .if-ends .left))
+    (reduced-read (c .bracket-start .ensures .0) range refl) (c .bracket-start .ensures .1)
+    (reduced-read (c .reduced-mean .ensures) range (toZ-ofZ w64 (c .rounded .result) (search needs) ∙ c .rounded .ensures)) in
     record { answers = told; finds = found _ _ _ _ (c .check .ensures .accepted) _ told; found = is-found _ _ _ _ (c .check .ensures .accepted) _ told }
 
 pub returns-in-Break-check : need.returns-in-Break-check

@@ -37,15 +37,15 @@ loop-k-again c =
     let l : k < length (factors-of (c .args .setting .now)) = subst (λ xs. k < length xs) told h in
     let is = c .inverses-inverses .result .now in
     agreed-more gs (c .args .quotients .now) k (c .loop-k .digits) (c .loop-k .units) (c .loop-k .weight) (c .next-digit-digit .result) h few (c .loop-k .inv) (c .next-digit-digit .ensures .0)
-      (digit-agrees gs (c .args .quotients .now) k (c .loop-k .digits) (c .loop-k .units) (c .loop-k .weight) (c .next-digit-digit .result) h few (c .loop-k .inv) is _ p
-        (c .inverses-inverses .ensures .each l)
-        (λ j i. subst (λ xs. (getD xs j 0 * getD is j 0) % getD xs k 0 ≡ 1) (sym told) (c .inverses-inverses .ensures .invert j i l .gives-one))
-        (remainder-is (getD gs k 0) _ (c .rem-euclid-residue .result) (omega (arith, accepted c .factors-fit k h .1)) (search needs) (search needs) (c .rem-euclid-residue .ensures .value))
-        (simp sub-zero at (c .next-digit-digit .ensures .1)))
+    (digit-agrees gs (c .args .quotients .now) k (c .loop-k .digits) (c .loop-k .units) (c .loop-k .weight) (c .next-digit-digit .result) h few (c .loop-k .inv) is _ p
+    (c .inverses-inverses .ensures .each l)
+    (λ j i. subst (λ xs. (getD xs j 0 * getD is j 0) % getD xs k 0 ≡ 1) (sym told) (c .inverses-inverses .ensures .invert j i l .gives-one))
+    (remainder-is (getD gs k 0) _ (c .rem-euclid-residue .result) (omega (arith, accepted c .factors-fit k h .1)) (search needs) (search needs) (c .rem-euclid-residue .ensures .value))
+    (simp sub-zero at (c .next-digit-digit .ensures .1)))
 
 pub returns : need.returns
 returns c =
     let told = c .factors-factors .ensures .told in
     let a = subst (λ gs. Accepted (unit-of (c .args .setting .now)) gs) (sym told) (c .factors-factors .ensures .accepted) in
     subst (λ gs. Agreeing gs (c .args .quotients .now) (c .loop-k .units)) told
-      (agreed-all (c .factors-factors .result .now) (c .args .quotients .now) (c .loop-k .k) (c .loop-k .digits) (c .loop-k .units) (c .loop-k .weight) (omega arith) (factors-pos _ _ a) (c .loop-k .inv))
+    (agreed-all (c .factors-factors .result .now) (c .args .quotients .now) (c .loop-k .k) (c .loop-k .digits) (c .loop-k .units) (c .loop-k .weight) (omega arith) (factors-pos _ _ a) (c .loop-k .inv))

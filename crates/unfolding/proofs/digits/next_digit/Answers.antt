@@ -10,10 +10,11 @@ pub loop-j-again : need.loop-j-again
 loop-j-again c =
     let j = c .loop-j .j in
     let is = c .args .inverses .now in
-    let ds = c .args .digits .now in
-    (c .less-digit-left .ensures .0,
-     ap (λ x. peeled (c .args .factor) x (drop (j + 1) is) (drop (j + 1) ds)) (c .less-digit-left .ensures .1)
-     ∙ sym (peeled-more (c .args .factor) (c .loop-j .left) j is ds (omega arith) (omega arith)) ∙ c .loop-j .inv .1)
+    let ds = c .args .digits .now in (
+      c .less-digit-left .ensures .0,
+      ap (λ x. peeled (c .args .factor) x (drop (j + 1) is) (drop (j + 1) ds)) (c .less-digit-left .ensures .1)
+          ∙ sym (peeled-more (c .args .factor) (c .loop-j .left) j is ds (omega arith) (omega arith)) ∙ c .loop-j .inv .1,
+    )
 
 pub returns : need.returns
 returns c =

@@ -5,5 +5,5 @@ use Rattle.unfolding.proofs.ends.ends.Given as given
 
 abbrev pub Inv-loop-k : given.InvT-loop-k
 Inv-loop-k l =
-      ((i : ℕ) × Greatest-at (l .k) (begins-at (l .unfolded) (l .bounds)) (l .lo) i)
+    ((i : ℕ) × Greatest-at (l .k) (begins-at (l .unfolded) (l .bounds)) (l .lo) i)
     × ((i : ℕ) × Least-at (l .k) (ends-at (l .unfolded) (l .bounds)) (l .hi) i)

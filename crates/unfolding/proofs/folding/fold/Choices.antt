@@ -8,7 +8,7 @@ use Rattle.unfolding.proofs.folding.fold.Given as given
 
 abbrev pub Inv-loop-k : given.InvT-loop-k
 Inv-loop-k l =
-      Known (unit-of (l .setting)) (factors-of (l .setting)) (l .readings) (l .factors) (l .moduli) (l .quotients) (l .units)
+    Known (unit-of (l .setting)) (factors-of (l .setting)) (l .readings) (l .factors) (l .moduli) (l .quotients) (l .units)
     × (length (l .folds) ≡ 8)
     × (length (l .unfolded) ≡ 8)
     × ((i : ℕ) → i < l .k → getD (l .folds) i (pos 0) ≡ turns-of-code (l .factors) (l .quotients) (l .units) i)

@@ -19,7 +19,7 @@ add-sum c =
     let k = c .loop-k .k in
     let at = toZ-ofZ w64 (getD (c .args .unfolded .now) k (pos 0)) (search needs) in
     sum-fits k _ _ (omega arith) (subst (From-to (k * 2 ^ 42)) (sym (c .loop-k .inv)) (total-moderate (c .args .unfolded .now) k (omega arith) (c .pre .1)))
-      (subst (From-to (2 ^ 42)) (sym at) (c .pre .1 k (c .loop-k-test .taken)))
+    (subst (From-to (2 ^ 42)) (sym at) (c .pre .1 k (c .loop-k-test .taken)))
 
 pub loop-k-again : need.loop-k-again
 loop-k-again c =
