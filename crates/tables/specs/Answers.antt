@@ -1,5 +1,4 @@
 -- Result lines. Assumes nothing.
-use mathlib.Core.Path.{_≡_}
 use mathlib.Core.List.{List, _∷_, _++_}
 use Prim.Native.Nat.{ℕ}
 use lib.Chars.{codes}
@@ -9,12 +8,10 @@ use Rattle.std.specs.Joined.{joined}
 use Rattle.std.specs.Written.{decimal, signed}
 use Rattle.std.specs.declared.result.Result.{Result}
 use Rattle.std.specs.declared.result.Result.the-variants.{Ok, Err}
-use Rattle.settings.specs.declared.kept.Setting.{Setting}
 use Rattle.unfolding.specs.declared.kept.Unfolding.{Unfolding}
 use Rattle.unfolding.specs.declared.refusals.UnfoldRefusal.{UnfoldRefusal}
 use Rattle.unfolding.specs.Refusals.{unfold-fault}
 use Rattle.unfolding.specs.Told.{folds-of, unfolded-of}
-use Rattle.unfolding.specs.Unfolds.{Unfold-answers}
 
 -- each number after a space
 abbrev pub spacedSigned : List ℤ → List ℕ
@@ -37,9 +34,3 @@ unfoldingLine u = partsLine (folds-of (u .folding)) (unfolded-of (u .folding)) (
 abbrev pub rowLine : Result Unfolding UnfoldRefusal → List ℕ
 rowLine (Ok u) = unfoldingLine u
 rowLine (Err e) = refusalLine (unfold-fault e)
-
--- the line of what `unfold` answers
-pub record Answered (s : Setting) (bounds row line : List ℕ) : Type 0 where
-  pub reply : Result Unfolding UnfoldRefusal
-  pub unfolds : Unfold-answers s row bounds reply
-  pub told : line ≡ rowLine reply

@@ -4,15 +4,13 @@ ghost use mathlib.Core.Path.{_≡_};
 ghost use Rattle.std.specs.declared.option.Option.the-variants.{Some};
 ghost use Rattle.std.specs.Of.String.{string-bytes};
 ghost use Rattle.std.specs.Vec.{made};
-ghost use Rattle.tables.specs.Answers.{Answered, partsLine, refusalLine, refusalRecord, rowLine, spacedSigned, unfoldingLine};
+ghost use Rattle.tables.specs.Answers.{partsLine, refusalLine, refusalRecord, rowLine, spacedSigned, unfoldingLine};
 use records::Fault;
-use settings::Setting;
 use std::alloc::AllocError;
 use std::alloc::Global;
 use std::fmt;
 use unfolding::UnfoldRefusal;
 use unfolding::Unfolding;
-use unfolding::unfold;
 
 /// Numbers, each after a space.
 #[derive(Clone, Copy)]
@@ -100,16 +98,4 @@ pub fn row_line(heap: Global, row: Result<Unfolding, UnfoldRefusal>) -> Result<S
         Ok(found) => unfolding_line(heap, &found),
         Err(refusal) => refusal_line(heap, refusal.fault()),
     }
-}
-
-/// What a row of readings comes to in a setting with these bounds, as a result line.
-pub fn answer(
-    heap: Global,
-    setting: &Setting,
-    bounds: &[u32],
-    row: &[u32],
-) -> Result<String, AllocError>
-    ensures { λ r. ⌜ made r (λ s. Answered (now (setting .entry)) (now (bounds .entry)) (now (row .entry)) (string-bytes s)) ⌝ }
-{
-    row_line(heap, unfold(setting, row, bounds))
 }

@@ -9,7 +9,6 @@ mod reading;
 mod replies;
 mod splitting;
 
-pub use answers::answer;
 pub use answers::refusal_line;
 pub use answers::refusal_record;
 pub use answers::row_line;

@@ -87,6 +87,7 @@ fn main(rt: LibcRuntime) -> Result<(), AnyError> {
 #[cfg(test)]
 mod tests {
     use super::*;
+    use settings::Setting;
     use std::test::*;
 
     // What a table prints, and what is reported of it.
@@ -117,6 +118,18 @@ mod tests {
         let (out, told) = outcome(rt.alloc(), b"moduli 30 60\nbounds 2 2\n1 x\n")?;
         check_eq(out.as_slice(), b"refused 3 channel 0 depth 0\n".as_slice())?;
         check_eq(told.as_str(), "")
+    }
+
+    // No table has one modulus alone, so a single channel is tried here.
+    #[test]
+    fn one_channel_brackets_its_reading() -> Result<(), Fail> {
+        let Ok(setting) = Setting::new(10, &[3]) else {
+            return Err(Fail::new("no setting"));
+        };
+        let Ok(found) = unfolding::unfold(&setting, &[29], &[2]) else {
+            return Err(Fail::new("refused"));
+        };
+        check_eq((found.start(), found.count(), found.mean()), (27, 5, 29))
     }
 
     #[test]
