@@ -18,6 +18,7 @@ use Rattle.residues.proofs.Congruence.{Same, same-trans, same-modulo}
 use Rattle.residues.proofs.Products.{product-more, product-has, product-le}
 use Rattle.settings.specs.Settings.{Accepted}
 use Rattle.unfolding.specs.Digits.{peeled, mixed, Agreeing}
+use Rattle.unfolding.specs.Folds.{Coprime-channels}
 use Rattle.unfolding.proofs.Peeling.{mixed-more, peeled-back}
 
 -- the first k digits make y, which is below their weight w and agrees with the first k quotients
@@ -33,6 +34,10 @@ agreed-none gs qs ds e = record { places = e; weight-is = refl; units-are = refl
 
 pub factors-pos : (u : ℕ) (gs : List ℕ) → Accepted u gs → (k : ℕ) → k < length gs → 0 < getD gs k 0
 factors-pos u gs a k h = omega (arith, a .factors-fit k h .0)
+
+-- what folding needs of a setting
+pub apart : (u : ℕ) (gs : List ℕ) → Accepted u gs → Coprime-channels u gs
+apart u gs a = record { unit-pos = a .unit-fits .0; some = a .counted .0; factors-pos = factors-pos u gs a; coprime = a .coprime }
 
 pub product-few : (u : ℕ) (gs : List ℕ) → Accepted u gs → product gs ≤ 2 ^ 40
 product-few u gs a = omega (arith, a .range-fits, mul-le-mul-left (product gs) (a .unit-fits .0))

@@ -27,6 +27,7 @@ use Rattle.unfolding.specs.Refusals.{All-fine, Unfold-refused}
 use Rattle.unfolding.specs.Unfolds.{Unfolds}
 use Rattle.unfolding.proofs.Robustness.{robust}
 use Rattle.unfolding.proofs.Bracketing.{none, narrow-enough, exact, mean-near}
+use Rattle.unfolding.proofs.Agreed.{apart}
 use Rattle.unfolding.proofs.Turning.{folds-well}
 
 -- equal numbers have the same extremes and sums
@@ -60,7 +61,7 @@ module _ (u : ℕ) (gs rs ts : List ℕ) (a : Accepted u gs) (fine : All-fine u 
   tame k h = fine .fine k h .tame
 
   pub well : Folds-well u gs rs (d .first-folds)
-  well = folds-well u gs rs a (d .first-folds) (d .turns) tame
+  well = folds-well u gs rs (apart u gs a) (d .first-folds) (d .turns) tame
 
   module _ (cs : List ℤ) (cut : cs ≡ unfolded-of f) (places : length (f .unfolded) ≡ 8) where
     pub counted : length cs ≡ length gs
@@ -132,7 +133,7 @@ module _ (u : ℕ) (gs rs ts : List ℕ) (a : Accepted u gs) (fine : All-fine u 
           folds-well = well;
           folds-are = ap folds-of same ∙ front-is (fold-at u gs rs n) (f .folds) (f .count) (length gs) (d .counted) f-places (a .counted .1) (d .folds-are);
           unfolded-are = ap unfolded-of same ∙ front-is (unfolded-at u gs rs n) (f .unfolded) (f .count) (length gs) (d .counted) places (a .counted .1) (d .unfolded-are);
-          robust = robust u gs rs a n (d .turns);
+          robust = robust u gs rs (apart u gs a) n (d .turns);
           lo-channel = k;
           lo-is = g;
           hi-channel = l;

@@ -17,7 +17,7 @@ use Rattle.settings.specs.Settings.{Accepted, modulus-at, range-of}
 use Rattle.unfolding.specs.Folds.{Turns, fold-at, unfolded-at}
 use Rattle.unfolding.specs.Robust.{Reads-near}
 use Rattle.unfolding.specs.Brackets.{Allowed, low-at, high-at}
-use Rattle.unfolding.proofs.Agreed.{factors-pos}
+use Rattle.unfolding.proofs.Agreed.{factors-pos, apart}
 use Rattle.unfolding.proofs.Robustness.{robust}
 
 pub range-pos : (u : ℕ) (gs : List ℕ) → Accepted u gs → 0 < range-of u gs
@@ -70,7 +70,7 @@ module _ (u : ℕ) (gs rs ts : List ℕ) (n : ℕ) where
       to-cover P allowed =
           let errors : (k : ℕ) → (e : ℤ) × (k < length gs → Reads-near u (modulus-at u gs k) (getD rs k 0) P e × (negℤ (pos (getD ts k 0)) ≤ℤ e) × (e ≤ℤ pos (getD ts k 0))) =
           λ k. error-at P allowed k (decLt k (length gs)) in
-          let (w, off) = robust u gs rs a n t P (λ k. errors k .0) (λ k h. errors k .1 h .0) in
+          let (w, off) = robust u gs rs (apart u gs a) n t P (λ k. errors k .0) (λ k h. errors k .1 h .0) in
           (w, λ k h. cover (unfolded-at u gs rs n k) P (errors k .0) (w *ℤ pos (range-of u gs)) (getD ts k 0) (off k h) (errors k .1 h .1) (errors k .1 h .2))
         where
           cover : (c P e R : ℤ) (t : ℕ) → c ≡ P +ℤ e +ℤ R → negℤ (pos t) ≤ℤ e → e ≤ℤ pos t → ((c -ℤ pos t) ≤ℤ (P +ℤ R)) × ((P +ℤ R) ≤ℤ (c +ℤ pos t))

@@ -18,7 +18,7 @@ use Rattle.unfolding.specs.Digits.{Agreeing}
 use Rattle.unfolding.specs.Folds.{quotient-at, Turns, fold-at, unfolded-at}
 use Rattle.unfolding.specs.declared.kept.Folding.{Folding}
 use Rattle.unfolding.specs.Folded.{Folded}
-use Rattle.unfolding.proofs.Agreed.{factors-pos}
+use Rattle.unfolding.proofs.Agreed.{factors-pos, apart}
 use Rattle.unfolding.proofs.Turning.{turns-of}
 use Rattle.unfolding.proofs.Fitting.{From-to, quotient-fits, units-few, fold-fits}
 
@@ -78,7 +78,7 @@ module _ (u : ℕ) (gs rs fs ms : List ℕ) (qs : List ℤ) (y : ℕ) (n : Known
   pub folded : (f : Folding) → f .count ≡ length gs → f .quotients ≡ qs → ((k : ℕ) → k < length gs → getD (f .folds) k (pos 0) ≡ turns-of-code fs qs y k)
       → ((k : ℕ) → k < length gs → getD (f .unfolded) k (pos 0) ≡ turns-of-code fs qs y k *ℤ pos (getD ms k 0) +ℤ pos (getD rs k 0)) → Folded u gs rs f
   folded f c q folds unfolded =
-      let (m, e, t) = turns-of u gs rs (n .accepted) qs y (n .quotients-are) (n .units-agree) in
+      let (m, e, t) = turns-of u gs rs (apart u gs (n .accepted)) qs y (n .quotients-are) (n .units-agree) in
       record {
         counted = c;
         first-folds = m;

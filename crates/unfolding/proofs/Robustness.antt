@@ -10,9 +10,9 @@ use Rattle.residues.specs.Products.{product}
 use Rattle.residues.proofs.Ring.{ring, lin}
 use Rattle.residues.proofs.Floor.{rounds}
 use Rattle.residues.proofs.Bezout.{Divides, product-divides}
-use Rattle.settings.specs.Settings.{Accepted, modulus-at, range-of}
-use Rattle.unfolding.specs.Folds.{quotient-at, Turns, fold-at, unfolded-at}
-use Rattle.unfolding.specs.Robust.{Reads-near, Robust}
+use Rattle.settings.specs.Settings.{modulus-at, range-of}
+use Rattle.unfolding.specs.Folds.{Coprime-channels, quotient-at, Turns, fold-at, unfolded-at}
+use Rattle.unfolding.specs.Robust.{Reads-near, Robust, Robust-remainders}
 use Rattle.unfolding.proofs.Turning.{evenly, place-is}
 
 -- two readings of N differ by whole units, and the difference of their errors
@@ -28,14 +28,14 @@ off-by : (c u y g g₀ j j₀ q N e r p w : ℤ) → c ≡ u *ℤ (y -ℤ q) +�
 off-by c u y g g₀ j j₀ q N e r p w a b d f =
     simp ring (omega (arith, lin, simp ring at a, simp ring at (ap (λ x. u *ℤ x) b), simp ring at d, simp ring at (ap (λ x. u *ℤ x) f)))
 
-module _ (u : ℕ) (gs rs : List ℕ) (a : Accepted u gs) (n : ℕ) (t : Turns u gs rs n) where
+module _ (u : ℕ) (gs rs : List ℕ) (a : Coprime-channels u gs) (n : ℕ) (t : Turns u gs rs n) where
   pub robust : Robust u gs rs n
   robust N error near =
       let y : ℤ = pos (n * getD gs 0 0) in
-      let o : 0 < length gs = a .counted .0 in
+      let o : 0 < length gs = a .some in
       let j : (k : ℕ) → k < length gs → ℤ = λ k h. near k h .round .0 in
       let q : (k : ℕ) (h : k < length gs) → quotient-at u rs k ≡ j k h *ℤ pos (getD gs k 0) -ℤ j 0 o *ℤ pos (getD gs 0 0) = λ k h.
-      rounds u (pos (getD rs k 0) -ℤ pos (getD rs 0 0)) (j k h *ℤ pos (getD gs k 0) -ℤ j 0 o *ℤ pos (getD gs 0 0)) (error k -ℤ error 0) (a .unit-fits .0)
+      rounds u (pos (getD rs k 0) -ℤ pos (getD rs 0 0)) (j k h *ℤ pos (getD gs k 0) -ℤ j 0 o *ℤ pos (getD gs 0 0)) (error k -ℤ error 0) (a .unit-pos)
       (apart-by (pos u) (pos (getD gs k 0)) (pos (getD gs 0 0)) (j k h) (j 0 o) N (error k) (error 0) (pos (getD rs k 0)) (pos (getD rs 0 0)) (near k h .round .1) (near 0 o .round .1))
       (small-low u (error k) (error 0) (near k h .above) (near 0 o .below)) (small-high u (error k) (error 0) (near k h .below) (near 0 o .above)) in
       let (w, e) = product-divides gs (y +ℤ j 0 o *ℤ pos (getD gs 0 0)) (a .coprime)
@@ -50,3 +50,6 @@ module _ (u : ℕ) (gs rs : List ℕ) (a : Accepted u gs) (n : ℕ) (t : Turns u
 
       small-high : (u : ℕ) (e f : ℤ) → (pos 4 *ℤ e) <ℤ pos u → negℤ (pos u) <ℤ (pos 4 *ℤ f) → (e -ℤ f +ℤ (e -ℤ f)) <ℤ pos u
       small-high u e f h l = omega (arith, lin)
+
+pub robust-remainders : Robust-remainders
+robust-remainders u gs rs n a t = robust u gs rs a n t

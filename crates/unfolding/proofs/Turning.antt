@@ -13,10 +13,9 @@ use Rattle.residues.specs.Products.{product}
 use Rattle.residues.proofs.Ring.{ring, lin}
 use Rattle.residues.proofs.Floor.{split, floor-low, floor-high, floor-is, at-most, rounds}
 use Rattle.residues.proofs.Bezout.{Divides, product-divides}
-use Rattle.settings.specs.Settings.{Accepted, modulus-at, range-of}
+use Rattle.settings.specs.Settings.{modulus-at, range-of}
 use Rattle.unfolding.specs.Digits.{Agreeing}
-use Rattle.unfolding.specs.Folds.{quotient-at, Turns, fold-at, unfolded-at, Folds-well}
-use Rattle.unfolding.proofs.Agreed.{factors-pos}
+use Rattle.unfolding.specs.Folds.{Coprime-channels, quotient-at, Turns, fold-at, unfolded-at, Folds-well}
 
 -- with no remainder, z is its quotient times m
 pub whole : (z : ℤ) (m : ℕ) → 0 < m → z modulo m ≡ 0 → z ≡ divEuclid z (pos m) *ℤ pos m
@@ -45,12 +44,12 @@ half-unit : (u : ℕ) (d q r : ℤ) → d ≡ r -ℤ pos u *ℤ q → (q *ℤ po
     → (negℤ (pos u) ≤ℤ (pos 2 *ℤ d)) × ((pos 2 *ℤ d) <ℤ pos u)
 half-unit u d q r e l h = (omega (arith, lin), omega (arith, lin))
 
-module _ (u : ℕ) (gs rs : List ℕ) (a : Accepted u gs) where
+module _ (u : ℕ) (gs rs : List ℕ) (a : Coprime-channels u gs) where
   unit-pos : 0 < u
-  unit-pos = a .unit-fits .0
+  unit-pos = a .unit-pos
 
   first-pos : 0 < getD gs 0 0
-  first-pos = factors-pos u gs a 0 (a .counted .0)
+  first-pos = a .factors-pos 0 (a .some)
 
   -- the units that n folds of channel 0 make agree with every channel
   agreeing : (n : ℕ) → Turns u gs rs n → (n * getD gs 0 0 < product gs) × ((k : ℕ) → k < length gs → (pos (n * getD gs 0 0) -ℤ quotient-at u rs k) modulo getD gs k 0 ≡ 0)
@@ -63,15 +62,15 @@ module _ (u : ℕ) (gs rs : List ℕ) (a : Accepted u gs) where
       let (h, f) = agreeing n t in
       let (l, g) = agreeing m s in
       let (k, e) = product-divides gs (pos (m * getD gs 0 0) -ℤ pos (n * getD gs 0 0)) (a .coprime)
-      (λ k i. apart (getD gs k 0) (n * getD gs 0 0) (m * getD gs 0 0) (quotient-at u rs k) (factors-pos u gs a k i) (f k i) (g k i)) in
+      (λ k i. apart (getD gs k 0) (n * getD gs 0 0) (m * getD gs 0 0) (quotient-at u rs k) (a .factors-pos k i) (f k i) (g k i)) in
       let same : m * getD gs 0 0 ≡ n * getD gs 0 0 = close (product gs) (n * getD gs 0 0) (m * getD gs 0 0) k e h l in
       eq-of-mul-eq-mul-left (getD gs 0 0) first-pos m n (omega (arith, same))
 
   pub turns-of : (qs : List ℤ) (y : ℕ) → ((k : ℕ) → k < length gs → getD qs k (pos 0) ≡ quotient-at u rs k) → Agreeing gs qs y → (n : ℕ) × (y ≡ n * getD gs 0 0) × Turns u gs rs n
   turns-of qs y q g =
       let none : pos y -ℤ getD qs 0 (pos 0) ≡ divEuclid (pos y -ℤ getD qs 0 (pos 0)) (pos (getD gs 0 0)) *ℤ pos (getD gs 0 0) =
-      whole (pos y -ℤ getD qs 0 (pos 0)) (getD gs 0 0) first-pos (g .agree 0 (a .counted .0)) in
-      let zero-is : getD qs 0 (pos 0) ≡ pos 0 = q 0 (a .counted .0) ∙ first-quotient u rs unit-pos in
+      whole (pos y -ℤ getD qs 0 (pos 0)) (getD gs 0 0) first-pos (g .agree 0 (a .some)) in
+      let zero-is : getD qs 0 (pos 0) ≡ pos 0 = q 0 (a .some) ∙ first-quotient u rs unit-pos in
       let (n, e) = natural y (getD gs 0 0) (divEuclid (pos y -ℤ getD qs 0 (pos 0)) (pos (getD gs 0 0))) first-pos (omega (arith, lin, none, zero-is)) in (
         n,
         e,
@@ -93,7 +92,7 @@ module _ (u : ℕ) (gs rs : List ℕ) (a : Accepted u gs) where
 
   module _ (n : ℕ) (t : Turns u gs rs n) where
     pub evenly : (k : ℕ) → k < length gs → fold-at u gs rs n k *ℤ pos (getD gs k 0) ≡ pos (n * getD gs 0 0) -ℤ quotient-at u rs k
-    evenly k h = sym (whole (pos (n * getD gs 0 0) -ℤ quotient-at u rs k) (getD gs k 0) (factors-pos u gs a k h) (t .agree k h))
+    evenly k h = sym (whole (pos (n * getD gs 0 0) -ℤ quotient-at u rs k) (getD gs k 0) (a .factors-pos k h) (t .agree k h))
 
     first-fold : fold-at u gs rs n 0 ≡ pos n
     first-fold =
@@ -103,7 +102,7 @@ module _ (u : ℕ) (gs rs : List ℕ) (a : Accepted u gs) where
     at-least : (k : ℕ) → k < length gs → getD rs k 0 < modulus-at u gs k → negsuc 0 ≤ℤ fold-at u gs rs n k
     at-least k h l =
         let z : ℤ = pos (n * getD gs 0 0) -ℤ quotient-at u rs k in
-        at-most (getD gs k 0) z (fold-at u gs rs n k) (negsuc 0) (omega (arith, lin, quotient-most k l)) (floor-high z (getD gs k 0) (factors-pos u gs a k h))
+        at-most (getD gs k 0) z (fold-at u gs rs n k) (negsuc 0) (omega (arith, lin, quotient-most k l)) (floor-high z (getD gs k 0) (a .factors-pos k h))
 
     -- where channel k's unfolded reading stands
     pub place-is : (k : ℕ) → k < length gs → unfolded-at u gs rs n k ≡ pos u *ℤ (pos (n * getD gs 0 0) -ℤ quotient-at u rs k) +ℤ pos (getD rs k 0)
@@ -118,7 +117,7 @@ module _ (u : ℕ) (gs rs : List ℕ) (a : Accepted u gs) where
         let z : ℤ = pos 2 *ℤ (pos (getD rs k 0) -ℤ pos (getD rs 0 0)) +ℤ pos u in
         let p : 0 < 2 * u = omega (arith, unit-pos) in
         let d = difference (unfolded-at u gs rs n k) (unfolded-at u gs rs n 0) (pos u) (pos (n * getD gs 0 0)) (quotient-at u rs k) (quotient-at u rs 0) (pos (getD rs k 0)) (pos (getD rs 0 0))
-        (place-is k h) (place-is 0 (a .counted .0)) (first-quotient u rs unit-pos) in
+        (place-is k h) (place-is 0 (a .some)) (first-quotient u rs unit-pos) in
         half-unit u (unfolded-at u gs rs n k -ℤ unfolded-at u gs rs n 0) (quotient-at u rs k) (pos (getD rs k 0) -ℤ pos (getD rs 0 0)) d (floor-low z (2 * u) p) (floor-high z (2 * u) p)
 
     pub folds-well : ((k : ℕ) → k < length gs → getD rs k 0 < modulus-at u gs k) → Folds-well u gs rs n

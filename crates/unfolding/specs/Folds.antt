@@ -7,7 +7,15 @@ use lib.IntN.{ℤ, pos, negsuc, _+ℤ_, _-ℤ_, _*ℤ_, negℤ}
 use lib.Signed.{_≤ℤ_, _<ℤ_}
 use Rattle.std.specs.Numbers.{divEuclid}
 use Rattle.residues.specs.Circle.{_modulo_}
+use Rattle.residues.specs.Products.{Pairwise-coprime}
 use Rattle.settings.specs.Settings.{modulus-at, range-of}
+
+-- a unit with one factor or more, however many, no two of which share a divisor
+pub record Coprime-channels (u : ℕ) (gs : List ℕ) : Type 0 where
+  pub unit-pos : 0 < u
+  pub some : 0 < length gs
+  pub factors-pos : (k : ℕ) → k < length gs → 0 < getD gs k 0
+  pub coprime : Pairwise-coprime gs
 
 -- the units from channel 0's reading to channel k's, rounded: ⌊(2(r − r₀) + M) / 2M⌋, which is 0 for channel 0
 abbrev pub quotient-at : (u : ℕ) (rs : List ℕ) (k : ℕ) → ℤ

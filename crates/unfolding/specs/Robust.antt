@@ -6,7 +6,7 @@ use lib.ListN.{length, getD}
 use lib.IntN.{ℤ, pos, _+ℤ_, _*ℤ_, negℤ}
 use lib.Signed.{_<ℤ_}
 use Rattle.settings.specs.Settings.{modulus-at, range-of}
-use Rattle.unfolding.specs.Folds.{unfolded-at}
+use Rattle.unfolding.specs.Folds.{Coprime-channels, Turns, unfolded-at}
 
 -- r is N and the error e, round a circle of m, and four times the error is less than the unit u either way
 pub record Reads-near (u m r : ℕ) (N e : ℤ) : Type 0 where
@@ -19,3 +19,7 @@ abbrev pub Robust : (u : ℕ) (gs rs : List ℕ) (n : ℕ) → Type 0
 Robust u gs rs n =
     (N : ℤ) (error : ℕ → ℤ) → ((k : ℕ) → k < length gs → Reads-near u (modulus-at u gs k) (getD rs k 0) N (error k))
     → (j : ℤ) × ((k : ℕ) → k < length gs → unfolded-at u gs rs n k ≡ N +ℤ error k +ℤ j *ℤ pos (range-of u gs))
+
+-- and so for any count of channels, any readings, and the one number of folds of channel 0 that agrees with all of them
+abbrev pub Robust-remainders : Type 0
+Robust-remainders = (u : ℕ) (gs rs : List ℕ) (n : ℕ) → Coprime-channels u gs → Turns u gs rs n → Robust u gs rs n

@@ -7,6 +7,7 @@ ghost use mathlib.Core.Path.{_≡_};
 ghost use Rattle.unfolding.specs.Channels.{Greatest-at, Least-at, Moderate, Small, position-of};
 ghost use Rattle.unfolding.specs.Ends.{Crossed, begins-at, ends-at};
 ghost use Rattle.settings.specs.Told.{factors-of, unit-of};
+ghost use Rattle.unfolding.specs.Robust.{Robust-remainders};
 ghost use Rattle.unfolding.specs.Returns.{Finds, Is-found};
 ghost use Rattle.unfolding.specs.Unfolds.{Unfold-answers};
 use crate::UnfoldRefusal;
@@ -51,6 +52,7 @@ pub fn unfold(
     bounds: &[u32],
 ) -> Result<Unfolding, UnfoldRefusal>
     ensures answers { λ r. ⌜ Unfold-answers (now (setting .entry)) (now (readings .entry)) (now (bounds .entry)) r ⌝ }
+    ensures robust { λ _. ⌜ Robust-remainders ⌝ }
     ensures finds { λ r. ⌜ Finds (unit-of (now (setting .entry))) (factors-of (now (setting .entry))) (now (readings .entry)) (now (bounds .entry)) r ⌝ }
     ensures found { λ r. ⌜ Is-found (unit-of (now (setting .entry))) (factors-of (now (setting .entry))) (now (readings .entry)) (now (bounds .entry)) r ⌝ }
 {

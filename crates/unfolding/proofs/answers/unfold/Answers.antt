@@ -12,6 +12,7 @@ use Rattle.unfolding.specs.Channels.{position-of}
 use Rattle.unfolding.proofs.Extremes.{less-read, not-less-read, weaker}
 use Rattle.unfolding.proofs.Covers.{range-pos}
 use Rattle.unfolding.proofs.Assembly.{counted, paired, moderate, contradicted, unfolds}
+use Rattle.unfolding.proofs.Robustness.{robust-remainders}
 use Rattle.unfolding.proofs.Returning.{found, is-found, not-refused}
 use Rattle.unfolding.proofs.answers.unfold.Needs as need
 
@@ -47,7 +48,12 @@ returns-then-ends c =
     let s = c .ends-ends .ensures .small in
     let refused = contradicted _ _ _ _ (c .check .ensures .accepted) (c .in-Continue-check .ensures tt .checked) _ (c .fold-folding .ensures) (c .unfolded-unfolded .result .now) (c .unfolded-unfolded .ensures) (search needs)
     _ _ (less-read _ _ (s .1) (s .0) (c .if-ends .taken)) _ (c .contradictory .ensures) in
-    record { answers = refused; finds = tt; found = not-refused _ _ _ _ (c .check .ensures .accepted) _ refused }
+    record {
+      answers = refused;
+      robust = robust-remainders;
+      finds = tt;
+      found = not-refused _ _ _ _ (c .check .ensures .accepted) _ refused;
+    }
 
 pub rounded-requires : need.rounded-requires
 rounded-requires c κs =
@@ -67,13 +73,23 @@ returns c =
     _ refl (search needs) (search needs) (c .ends-ends .ensures .lo) (c .ends-ends .ensures .hi) (not-less-read _ _ (s .1) (s .0) (c .if-ends .left))
     (reduced-read (c .bracket-start .ensures .0) range refl) (c .bracket-start .ensures .1)
     (reduced-read (c .reduced-mean .ensures) range (toZ-ofZ w64 (c .rounded .result) (search needs) ∙ c .rounded .ensures)) in
-    record { answers = told; finds = found _ _ _ _ (c .check .ensures .accepted) _ told; found = is-found _ _ _ _ (c .check .ensures .accepted) _ told }
+    record {
+      answers = told;
+      robust = robust-remainders;
+      finds = found _ _ _ _ (c .check .ensures .accepted) _ told;
+      found = is-found _ _ _ _ (c .check .ensures .accepted) _ told;
+    }
 
 pub returns-in-Break-check : need.returns-in-Break-check
 returns-in-Break-check c =
     let p = err-from-errBy (c .from-residual .result) (c .from-residual .ensures .1) in
     let refused = c .in-Break-check .ensures tt .checked in
-    rw (p .1, p .2) (record { answers = refused; finds = tt; found = not-refused _ _ _ _ (c .check .ensures .accepted) _ refused })
+    rw (p .1, p .2) (record {
+      answers = refused;
+      robust = robust-remainders;
+      finds = tt;
+      found = not-refused _ _ _ _ (c .check .ensures .accepted) _ refused;
+    })
 
 pub bracket-start-requires : need.bracket-start-requires
 bracket-start-requires c κs =
