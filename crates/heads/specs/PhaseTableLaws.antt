@@ -12,7 +12,7 @@ use Rattle.heads.specs.Figures.{fits, figures-of}
 use Rattle.heads.specs.Laws.{Plate-laws, Head-laws}
 use Rattle.heads.specs.PhaseTables.{entry-of, if-fit, table-told, table-waits}
 
-never : (b c : Bool) (A : Type 0) → b ≡ true → c ≡ false → b ≡ c → A
+pub never : (b c : Bool) (A : Type 0) → b ≡ true → c ≡ false → b ≡ c → A
 never b c A p q e = let z : _≡_ {A = ℕ} 0 1 = cc in absurd (omega arith)
 
 -- figures made by a test tell what a plate may tell
