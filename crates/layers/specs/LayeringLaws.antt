@@ -45,8 +45,8 @@ module _ {S : Type 0} (f : S → Figures) (w : S → List Entry) (plate : (s : S
     plate = λ s. layer-plate (zero-proper (z s) (f s)) (f s .modulus) (f s .bound) (f s) (f s .fit) refl (λ e _. plate s .fit-limits e) (plate s);
     unfit-empty = λ s. layer-empty (f s .fit) (zero-proper (z s) (f s) && leb (f s .depth + 1) 255) (f s .modulus) (f s .bound) (f s .depth) (map (turned (zero-turns (z s) (f s .modulus))) (w s));
     below = λ s. layer-below (f s .fit) (zero-proper (z s) (f s) && leb (f s .depth + 1) 255) (f s .modulus) (f s .bound) (f s .depth) (map (turned (zero-turns (z s) (f s .modulus))) (w s))
-      (λ _ p. let l : z s < f s .modulus = ltb-true (z s) (f s .modulus) (both-left _ (leb (f s .depth + 1) 255) p) in
-              turned-below (zero-turns (z s) (f s .modulus)) (f s .modulus) (f s .modulus) (w s) (λ r _. mod-lt (r + z s) (omega arith)) (below s));
+        (λ _ p. let l : z s < f s .modulus = ltb-true (z s) (f s .modulus) (both-left _ (leb (f s .depth + 1) 255) p) in
+        turned-below (zero-turns (z s) (f s .modulus)) (f s .modulus) (f s .modulus) (w s) (λ r _. mod-lt (r + z s) (omega arith)) (below s));
   }
 
   pub gear-laws : (a b : S → ℕ) → Head-laws (λ s. gear-told (a s) (b s) (f s)) (λ s. gear-waits (a s) (b s) (f s) (w s))
@@ -54,6 +54,6 @@ module _ {S : Type 0} (f : S → Figures) (w : S → List Entry) (plate : (s : S
     plate = λ s. layer-plate (gear-proper (a s) (b s) (f s)) (f s .modulus * a s) (f s .bound * a s + b s) (f s) (f s .fit) refl (λ _ p. both-right (leb 1 (a s)) _ p) (plate s);
     unfit-empty = λ s. layer-empty (f s .fit) (gear-proper (a s) (b s) (f s) && leb (f s .depth + 1) 255) (f s .modulus * a s) (f s .bound * a s + b s) (f s .depth) (map (turned (λ r. r * a s)) (w s));
     below = λ s. layer-below (f s .fit) (gear-proper (a s) (b s) (f s) && leb (f s .depth + 1) 255) (f s .modulus * a s) (f s .bound * a s + b s) (f s .depth) (map (turned (λ r. r * a s)) (w s))
-      (λ _ p. let l : 1 ≤ a s = leb-true 1 (a s) (both-left (leb 1 (a s)) _ (both-left _ (leb (f s .depth + 1) 255) p)) in
-              turned-below (λ r. r * a s) (f s .modulus) (f s .modulus * a s) (w s) (λ r h. mul-lt-mul-of-pos-right h l) (below s));
+        (λ _ p. let l : 1 ≤ a s = leb-true 1 (a s) (both-left (leb 1 (a s)) _ (both-left _ (leb (f s .depth + 1) 255) p)) in
+        turned-below (λ r. r * a s) (f s .modulus) (f s .modulus * a s) (w s) (λ r h. mul-lt-mul-of-pos-right h l) (below s));
   }

@@ -24,7 +24,11 @@ impl<H: Head> Gear<H> {
         ensures scale { λ r. ⌜ r .scale ≡ scale ⌝ }
         ensures slack { λ r. ⌜ r .slack ≡ slack ⌝ }
     {
-        Gear { below, scale, slack }
+        Gear {
+            below,
+            scale,
+            slack,
+        }
     }
 }
 
@@ -39,7 +43,11 @@ fn geared(below: Figures, scale: u32, slack: u32) -> Option<(u32, u32)>
     }
     let modulus = modulus as u32;
     let bound = bound as u32;
-    if fitness(modulus, bound) { Some((modulus, bound)) } else { None }
+    if fitness(modulus, bound) {
+        Some((modulus, bound))
+    } else {
+        None
+    }
 }
 
 // A reading behind the gear.

@@ -10,12 +10,27 @@ pub(crate) fn layered(below: Figures, proper: bool, modulus: u32, bound: u32) ->
     ensures { λ r. ⌜ r ≡ layer-told proper modulus bound below ⌝ }
 {
     if !below.fit {
-        return Figures { fit: false, modulus: 1, bound: 0, depth: below.depth };
+        return Figures {
+            fit: false,
+            modulus: 1,
+            bound: 0,
+            depth: below.depth,
+        };
     }
     let depth = below.depth + 1;
     if proper && depth <= 255 {
-        Figures { fit: true, modulus, bound, depth }
+        Figures {
+            fit: true,
+            modulus,
+            bound,
+            depth,
+        }
     } else {
-        Figures { fit: false, modulus: 1, bound: 0, depth }
+        Figures {
+            fit: false,
+            modulus: 1,
+            bound: 0,
+            depth,
+        }
     }
 }
