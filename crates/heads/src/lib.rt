@@ -5,6 +5,8 @@ mod tables;
 mod tracks;
 
 pub use faults::HeadFault;
+pub use faults::HeadFaultDebug;
+pub use faults::HeadFaultPartialEq;
 pub use plates::Figures;
 pub use plates::Head;
 pub use plates::Plate;
