@@ -1,10 +1,12 @@
 // Records that calls answer and logs keep, and the middle of items under an order.
 mod faults;
 mod middles;
+mod narrowing;
 mod orders;
 
 pub use faults::Fault;
 pub use middles::middle_of_few;
+pub use narrowing::middle;
 pub use orders::Ascending;
 pub use orders::AscendingOrder;
 pub use orders::InTurn;
