@@ -21,6 +21,10 @@ beside Less n b a h e l m = omega arith
 beside Equal n b a h e l m = e refl
 beside Greater n b a h e l m = omega arith
 
+-- what an answer says of the items the other way round
+pub turned : {K : Type 0} {lesser : K → K → Bool} → Total lesser → (x y : K) (r : Bool) → r ≡ lesser x y → r ≡ true → lesser y x ≡ false
+turned o x y r e t = o .one-way x y (sym e ∙ t)
+
 module _ {K : Type 0} (lesser : K → K → Bool) (o : Total lesser) where
   pub never-self : (x : K) → lesser x x ≡ false
   never-self x = ⊎-elim (λ t. o .one-way x x t) (λ f. f) (cases-bool (lesser x x))

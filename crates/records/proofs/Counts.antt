@@ -26,8 +26,8 @@ module _ {K : Type 0} where
         (cases-bool (p x))
 
   -- one item more is counted
-  pub count-more : (p : K → Bool) (xs : List K) (i : ℕ) (y : K) (r b : Bool) → i < length xs → y ≡ getD xs i y → r ≡ p y → r ≡ b → countBy p (take (i + 1) xs) ≡ countBy p (take i xs) + cond b 1 0
-  count-more p xs i y r b h e q s = sumBy-more (λ v. cond (p v) 1 0) xs i y h ∙ ap (λ v. countBy p (take i xs) + cond v 1 0) (ap p (sym e) ∙ sym q ∙ s)
+  pub count-more : (p : K → Bool) (xs : List K) (i : ℕ) (y : K) → i < length xs → y ≡ getD xs i y → (r b : Bool) → r ≡ p y → r ≡ b → countBy p (take (i + 1) xs) ≡ countBy p (take i xs) + cond b 1 0
+  count-more p xs i y h e r b q s = sumBy-more (λ v. cond (p v) 1 0) xs i y h ∙ ap (λ v. countBy p (take i xs) + cond v 1 0) (ap p (sym e) ∙ sym q ∙ s)
 
   -- where no item passes both tests
   pub not-both : (p q : K → Bool) (xs : List K) → ((j : ℕ) (d : K) → j < length xs → (p (getD xs j d) && q (getD xs j d)) ≡ false) → countBy p xs + countBy q xs ≤ length xs

@@ -17,8 +17,7 @@ pub(crate) fn standing<T, O: Order<T>>(order: &O, items: &[T], x: &T) -> (usize,
     for y in items {
         if order.is_less(y, x) {
             below += 1;
-        }
-        if order.is_less(x, y) {
+        } else if order.is_less(x, y) {
             above += 1;
         }
     }
