@@ -1,6 +1,6 @@
 -- Numbers without an order of their own: each is stirred from its place.
 use mathlib.Core.List.{List, map}
-use Prim.Native.Nat.{ℕ, _+_, _*_, _/_, _%_, _^_}
+use Prim.Native.Nat.{ℕ, _*_, _/_, _%_, _^_}
 use lib.Bits.{bitXor}
 use lib.IntN.{ℤ, pos}
 use Rattle.std.specs.Iters.{counting}

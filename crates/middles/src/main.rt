@@ -14,11 +14,17 @@ use std::io;
 fn tell(rt: &LibcRuntime, n: u64) -> io::Result<()> {
     let numbers = scattered::list(rt.alloc(), n)?;
     let items = numbers.as_slice();
-    let order = Counted { order: Ascending, count: Cell::new(0) };
+    let order = Counted {
+        order: Ascending,
+        count: Cell::new(0),
+    };
     match middle(&order, items) {
         Some(place) => {
             let count = order.count.get();
-            println!(rt, "{n} items: {count} comparisons, the middle at place {place}")
+            println!(
+                rt,
+                "{n} items: {count} comparisons, the middle at place {place}"
+            )
         }
         None => println!(rt, "no items"),
     }

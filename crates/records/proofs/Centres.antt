@@ -1,9 +1,9 @@
 -- That a central item exists, and that the order holds any two equal.
-use mathlib.Core.Path.{_≡_, refl, sym, ap, subst, _∙_}
+use mathlib.Core.Path.{_≡_, refl, ap}
 use mathlib.Core.List.{List, [], _∷_}
 use mathlib.Core.Bool.{Bool, true, false, _&&_}
 use mathlib.Core.Logic.{_⊎_, inl, inr, ⊎-elim}
-use Prim.Native.Nat.{ℕ, zero, suc, _+_, _-_, _/_, _≤_, _<_}
+use Prim.Native.Nat.{ℕ, zero, suc, _-_, _/_, _≤_, _<_}
 use native.Mathlib.Omega.{arith}
 use lib.ListN.{length, getD}
 use Rattle.std.specs.shelf.Lists.{countBy}
@@ -20,10 +20,6 @@ pub beside : (r : Ordering) (n b a : ℕ) → Ranked r ((n - 1) / 2 < b) ((b ≤
 beside Less n b a h e l m = omega arith
 beside Equal n b a h e l m = e refl
 beside Greater n b a h e l m = omega arith
-
--- what an answer says of the items the other way round
-pub turned : {K : Type 0} {lesser : K → K → Bool} → Total lesser → (x y : K) (r : Bool) → r ≡ lesser x y → r ≡ true → lesser y x ≡ false
-turned o x y r e t = o .one-way x y (sym e ∙ t)
 
 module _ {K : Type 0} (lesser : K → K → Bool) (o : Total lesser) where
   pub never-self : (x : K) → lesser x x ≡ false
@@ -43,7 +39,7 @@ module _ {K : Type 0} (lesser : K → K → Bool) (o : Total lesser) where
   pub apart : (xs : List K) (x y : K) → 0 < length xs → lesser x y ≡ true → Central lesser xs x → Central lesser xs y → ⊥
   apart xs x y some p a b =
       let r = one-of (λ z. lesser z y) (λ z. lesser x z)
-        (λ z. ⊎-elim (λ t. inr t) (λ n. inl (high-side x y z p n)) (cases-bool (lesser x z))) xs in
+      (λ z. ⊎-elim (λ t. inr t) (λ n. inl (high-side x y z p n)) (cases-bool (lesser x z))) xs in
       omega (arith, a .1, b .0, r)
 
   -- what the order holds equal to a central item is central
@@ -62,45 +58,45 @@ module _ {K : Type 0} (lesser : K → K → Bool) (o : Total lesser) where
 
   -- fewer items stand between two bounds once one that did is a bound
   pub high-falls : (p q : K → Bool) → Down q → (xs : List K) (i : ℕ) (d : K) → i < length xs → (p (getD xs i d) && q (getD xs i d)) ≡ true
-    → countBy (λ y. p y && lesser y (getD xs i d)) xs < countBy (λ y. p y && q y) xs
+      → countBy (λ y. p y && lesser y (getD xs i d)) xs < countBy (λ y. p y && q y) xs
   high-falls p q down xs i d l e =
       let pq = and-parts (p (getD xs i d)) (q (getD xs i d)) e in
       fewer (λ y. p y && lesser y (getD xs i d)) (λ y. p y && q y)
-        (λ y h. let a = and-parts (p y) (lesser y (getD xs i d)) h in and-from (p y) (q y) (a .0) (down y (getD xs i d) (a .1) (pq .1)))
-        xs i d l e (and-right (p (getD xs i d)) (lesser (getD xs i d) (getD xs i d)) (never-self (getD xs i d)))
+      (λ y h. let a = and-parts (p y) (lesser y (getD xs i d)) h in and-from (p y) (q y) (a .0) (down y (getD xs i d) (a .1) (pq .1)))
+      xs i d l e (and-right (p (getD xs i d)) (lesser (getD xs i d) (getD xs i d)) (never-self (getD xs i d)))
 
   pub low-falls : (p q : K → Bool) → Up p → (xs : List K) (i : ℕ) (d : K) → i < length xs → (p (getD xs i d) && q (getD xs i d)) ≡ true
-    → countBy (λ y. lesser (getD xs i d) y && q y) xs < countBy (λ y. p y && q y) xs
+      → countBy (λ y. lesser (getD xs i d) y && q y) xs < countBy (λ y. p y && q y) xs
   low-falls p q up xs i d l e =
       let pq = and-parts (p (getD xs i d)) (q (getD xs i d)) e in
       fewer (λ y. lesser (getD xs i d) y && q y) (λ y. p y && q y)
-        (λ y h. let a = and-parts (lesser (getD xs i d) y) (q y) h in and-from (p y) (q y) (up (getD xs i d) y (a .0) (pq .0)) (a .1))
-        xs i d l e (and-left (lesser (getD xs i d) (getD xs i d)) (q (getD xs i d)) (never-self (getD xs i d)))
+      (λ y h. let a = and-parts (lesser (getD xs i d) y) (q y) h in and-from (p y) (q y) (up (getD xs i d) y (a .0) (pq .0)) (a .1))
+      xs i d l e (and-left (lesser (getD xs i d) (getD xs i d)) (q (getD xs i d)) (never-self (getD xs i d)))
 
   -- too many items stand above the one bound and below the other for none to stand between
   pub some-between : (p q : K → Bool) (xs : List K) → length xs / 2 < countBy p xs → (length xs - 1) / 2 < countBy q xs
-    → ((j : ℕ) (d : K) → j < length xs → (p (getD xs j d) && q (getD xs j d)) ≡ false) → ⊥
+      → ((j : ℕ) (d : K) → j < length xs → (p (getD xs j d) && q (getD xs j d)) ≡ false) → ⊥
   some-between p q xs many more none = omega (arith, not-both p q xs none)
 
   narrow : (m : ℕ) (p q : K → Bool) → Up p → Down q → (d : K) (xs : List K) → countBy (λ y. p y && q y) xs < m
-    → length xs / 2 < countBy p xs → (length xs - 1) / 2 < countBy q xs → (i : ℕ) × (i < length xs) × Central lesser xs (getD xs i d)
+      → length xs / 2 < countBy p xs → (length xs - 1) / 2 < countBy q xs → (i : ℕ) × (i < length xs) × Central lesser xs (getD xs i d)
   narrow zero p q up down d xs few many more = absurd (omega arith)
   narrow (suc m) p q up down d xs few many more =
       ⊎-elim
-        (λ (r : (i : ℕ) × (i < length xs) × ((e : K) → (p (getD xs i e) && q (getD xs i e)) ≡ true)).
-          ⊎-elim
-            (λ (h : (length xs - 1) / 2 < smaller lesser xs (getD xs (r .0) d)).
-              narrow m p (λ y. lesser y (getD xs (r .0) d)) up (λ y z a b. across y z (getD xs (r .0) d) a b) d xs
-                (omega (arith, high-falls p q down xs (r .0) d (r .1) (r .2 d))) many h)
-            (λ (low : smaller lesser xs (getD xs (r .0) d) ≤ (length xs - 1) / 2). ⊎-elim
-              (λ (h : length xs / 2 < greater lesser xs (getD xs (r .0) d)).
-                narrow m (λ y. lesser (getD xs (r .0) d) y) q (λ y z a b. across (getD xs (r .0) d) y z b a) down d xs
-                  (omega (arith, low-falls p q up xs (r .0) d (r .1) (r .2 d))) h more)
-              (λ (high : greater lesser xs (getD xs (r .0) d) ≤ length xs / 2). (r .0, r .1, (low, high)))
-              (cases-lt (length xs / 2) (greater lesser xs (getD xs (r .0) d))))
-            (cases-lt ((length xs - 1) / 2) (smaller lesser xs (getD xs (r .0) d))))
-        (λ (none : (j : ℕ) (e : K) → j < length xs → (p (getD xs j e) && q (getD xs j e)) ≡ false). absurd (some-between p q xs many more none))
-        (find (λ y. p y && q y) d xs)
+      (λ (r : (i : ℕ) × (i < length xs) × ((e : K) → (p (getD xs i e) && q (getD xs i e)) ≡ true)).
+      ⊎-elim
+      (λ (h : (length xs - 1) / 2 < smaller lesser xs (getD xs (r .0) d)).
+      narrow m p (λ y. lesser y (getD xs (r .0) d)) up (λ y z a b. across y z (getD xs (r .0) d) a b) d xs
+      (omega (arith, high-falls p q down xs (r .0) d (r .1) (r .2 d))) many h)
+      (λ (low : smaller lesser xs (getD xs (r .0) d) ≤ (length xs - 1) / 2). ⊎-elim
+      (λ (h : length xs / 2 < greater lesser xs (getD xs (r .0) d)).
+      narrow m (λ y. lesser (getD xs (r .0) d) y) q (λ y z a b. across (getD xs (r .0) d) y z b a) down d xs
+      (omega (arith, low-falls p q up xs (r .0) d (r .1) (r .2 d))) h more)
+      (λ (high : greater lesser xs (getD xs (r .0) d) ≤ length xs / 2). (r .0, r .1, (low, high)))
+      (cases-lt (length xs / 2) (greater lesser xs (getD xs (r .0) d))))
+      (cases-lt ((length xs - 1) / 2) (smaller lesser xs (getD xs (r .0) d))))
+      (λ (none : (j : ℕ) (e : K) → j < length xs → (p (getD xs j e) && q (getD xs j e)) ≡ false). absurd (some-between p q xs many more none))
+      (find (λ y. p y && q y) d xs)
 
   pub all-pass : (xs : List K) → countBy (λ _. true) xs ≡ length xs
   all-pass [] = refl

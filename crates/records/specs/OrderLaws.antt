@@ -1,5 +1,5 @@
 -- The orders of this crate are total.
-use mathlib.Core.Path.{_≡_, refl, sym, ap, _∙_}
+use mathlib.Core.Path.{_≡_, refl, sym}
 use mathlib.Core.Bool.{Bool, true, false, cond}
 use mathlib.Core.Logic.{_⊎_, inl, inr, ⊎-elim}
 use Prim.Native.Nat.{ℕ}
@@ -53,19 +53,19 @@ module _ {J K : Type 0} (f : J → J → Bool) (g : K → K → Bool) (p : Total
   turn-one-way : (x y : J × K) → in-turn f g x y ≡ true → in-turn f g y x ≡ false
   turn-one-way x y e =
       ⊎-elim
-        (λ (a : f (x .0) (y .0) ≡ true). no-from (f (y .0) (x .0)) (f (x .0) (y .0)) (g (y .1) (x .1)) (p .one-way (x .0) (y .0) a) (λ n. absurd (both-ways (f (x .0) (y .0)) n a)))
-        (λ (b : (f (y .0) (x .0) ≡ false) × (g (x .1) (y .1) ≡ true)). no-from (f (y .0) (x .0)) (f (x .0) (y .0)) (g (y .1) (x .1)) (b .0) (λ _. q .one-way (x .1) (y .1) (b .1)))
-        (yes-parts (f (x .0) (y .0)) (f (y .0) (x .0)) (g (x .1) (y .1)) e)
+      (λ (a : f (x .0) (y .0) ≡ true). no-from (f (y .0) (x .0)) (f (x .0) (y .0)) (g (y .1) (x .1)) (p .one-way (x .0) (y .0) a) (λ n. absurd (both-ways (f (x .0) (y .0)) n a)))
+      (λ (b : (f (y .0) (x .0) ≡ false) × (g (x .1) (y .1) ≡ true)). no-from (f (y .0) (x .0)) (f (x .0) (y .0)) (g (y .1) (x .1)) (b .0) (λ _. q .one-way (x .1) (y .1) (b .1)))
+      (yes-parts (f (x .0) (y .0)) (f (y .0) (x .0)) (g (x .1) (y .1)) e)
 
   turn-chain : (x y z : J × K) → in-turn f g x y ≡ false → in-turn f g y z ≡ false → in-turn f g x z ≡ false
   turn-chain x y z d e =
       let a = no-parts (f (x .0) (y .0)) (f (y .0) (x .0)) (g (x .1) (y .1)) d in
       let b = no-parts (f (y .0) (z .0)) (f (z .0) (y .0)) (g (y .1) (z .1)) e in
       no-from (f (x .0) (z .0)) (f (z .0) (x .0)) (g (x .1) (z .1))
-        (p .chain (x .0) (y .0) (z .0) (a .0) (b .0))
-        (λ n. q .chain (x .1) (y .1) (z .1)
-          (a .1 (p .chain (y .0) (z .0) (x .0) (b .0) n))
-          (b .1 (p .chain (z .0) (x .0) (y .0) n (a .0))))
+      (p .chain (x .0) (y .0) (z .0) (a .0) (b .0))
+      (λ n. q .chain (x .1) (y .1) (z .1)
+      (a .1 (p .chain (y .0) (z .0) (x .0) (b .0) n))
+      (b .1 (p .chain (z .0) (x .0) (y .0) n (a .0))))
 
   pub in-turn-total : Total (in-turn f g)
   in-turn-total = record { one-way = turn-one-way; chain = turn-chain }

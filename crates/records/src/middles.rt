@@ -1,11 +1,24 @@
 // The middle of a few items, found by counting.
 ghost use mathlib.Core.Path.{_≡_};
 ghost use Prim.Native.Nat.{_-_, _/_, _<_, _≤_};
-ghost use lib.ListN.{length};
 ghost use Rattle.std.specs.Orderings.{Ranked};
+ghost use Rattle.records.specs.Orders.{Compares};
 ghost use Rattle.records.specs.Middles.{smaller, greater, FindsMiddle};
 use crate::orders::Order;
 use std::cmp::Ordering;
+
+/// How `a` stands to `b` in the order.
+pub fn compared<T, O: Order<T>>(order: &O, a: &T, b: &T) -> Ordering
+    ensures { λ r. ⌜ Compares (O·Order .lesser) (now (a .entry)) (now (b .entry)) r ⌝ }
+{
+    if order.is_less(a, b) {
+        Ordering::Less
+    } else if order.is_less(b, a) {
+        Ordering::Greater
+    } else {
+        Ordering::Equal
+    }
+}
 
 /// How many of the items are smaller than `x`, and how many greater.
 pub(crate) fn standing<T, O: Order<T>>(order: &O, items: &[T], x: &T) -> (usize, usize)
@@ -15,10 +28,10 @@ pub(crate) fn standing<T, O: Order<T>>(order: &O, items: &[T], x: &T) -> (usize,
     let mut below = 0;
     let mut above = 0;
     for y in items {
-        if order.is_less(y, x) {
-            below += 1;
-        } else if order.is_less(x, y) {
-            above += 1;
+        match compared(order, y, x) {
+            Ordering::Less => below += 1,
+            Ordering::Equal => {}
+            Ordering::Greater => above += 1,
         }
     }
     (below, above)
@@ -38,8 +51,8 @@ pub(crate) fn side(n: usize, below: usize, above: usize) -> Ordering
     }
 }
 
-/// The place of the first item with at most (n - 1) / 2 smaller and n / 2
-/// greater items, by counting: for few items.
+/// The place of the first item with at most (n - 1) / 2 smaller and at most
+/// n / 2 greater items, by counting: for few items.
 pub fn middle_of_few<T, O: Order<T>>(order: &O, items: &[T]) -> Option<usize>
     ensures { λ r. ⌜ FindsMiddle (O·Order .lesser) (now (items .entry)) r ⌝ }
 {

@@ -1,9 +1,10 @@
 // The middle of many items: the bounds that it lies between are narrowed from item to item. No item is moved, and none is copied.
 ghost use mathlib.Core.Path.{_≡_};
-ghost use Prim.Native.Nat.{_-_, _/_, _<_, _≤_};
+ghost use Prim.Native.Nat.{_-_, _/_, _<_};
 ghost use lib.ListN.{length};
 ghost use Rattle.records.specs.Bounds.{Holds, above-bound, below-bound, between, Picks, FirstEqual};
 ghost use Rattle.records.specs.Middles.{FindsMiddle};
+use crate::middles::compared;
 use crate::middles::side;
 use crate::middles::standing;
 use crate::orders::Order;
@@ -82,10 +83,8 @@ fn first_equal<T, O: Order<T>>(order: &O, items: &[T], p: usize) -> usize
 {
     let x = &items[p];
     for i in 0..p {
-        if !order.is_less(&items[i], x) {
-            if !order.is_less(x, &items[i]) {
-                return i;
-            }
+        if compared(order, &items[i], x) == Ordering::Equal {
+            return i;
         }
     }
     p
@@ -98,10 +97,10 @@ fn half_between(n: usize, over: usize, under: usize) -> usize
     over.saturating_sub(n.saturating_sub(under)) / 2
 }
 
-/// The place of the first item with at most (n - 1) / 2 smaller and n / 2
-/// greater items. Shuffled or sorted items take a number of scans that grows
-/// as the logarithm of `n`.
-pub fn middle<T, O: Order<T>>(order: &O, items: &[T]) -> Option<usize>
+/// The place of the first item with at most (n - 1) / 2 smaller and at most
+/// n / 2 greater items, by narrowing: for many items. Of shuffled or
+/// sorted items a round leaves out about half, and at worst only one.
+pub fn middle_of_many<T, O: Order<T>>(order: &O, items: &[T]) -> Option<usize>
     ensures { λ r. ⌜ FindsMiddle (O·Order .lesser) (now (items .entry)) r ⌝ }
 {
     let n = items.len();

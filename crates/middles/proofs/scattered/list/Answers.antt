@@ -21,7 +21,7 @@ pub loop-place-again : need.loop-place-again
 loop-place-again c =
     let fits : SFits w64 (c .scattered .result) = search needs in
     one-more (c .loop-place .place) (vec-items (c .loop-place .numbers)) (vec-items (c .push .last .self)) (toZ w64 (ofZ w64 (c .scattered .result)))
-      (c .in-Continue-push .ensures tt .items) (toZ-ofZ w64 (c .scattered .result) fits ∙ c .scattered .ensures) (c .loop-place .inv)
+    (c .in-Continue-push .ensures tt .items) (toZ-ofZ w64 (c .scattered .result) fits ∙ c .scattered .ensures) (c .loop-place .inv)
 
 pub returns-in-Break-push : need.returns-in-Break-push
 returns-in-Break-push c = made-from-err (c .from-residual .result) _ (c .from-residual .ensures .0)
