@@ -1,0 +1,4 @@
+pub mod Orders
+pub mod OrderLaws
+pub mod Middles
+pub mod Bounds
