@@ -4,7 +4,7 @@ use crate::middles::middle_of_few;
 use crate::narrowing::middle_of_many;
 use crate::orders::Order;
 
-/// Up to here counting takes about as many comparisons as narrowing.
+/// Up to here items are counted; the limit is a guess, and no answer hangs on it.
 const FEW: usize = 8;
 
 /// The place of the first item with at most (n - 1) / 2 smaller and at most

@@ -98,8 +98,8 @@ fn half_between(n: usize, over: usize, under: usize) -> usize
 }
 
 /// The place of the first item with at most (n - 1) / 2 smaller and at most
-/// n / 2 greater items, by narrowing: for many items. Of shuffled or
-/// sorted items a round leaves out about half, and at worst only one.
+/// n / 2 greater items, by narrowing: for many items. Each round leaves out
+/// one item or more.
 pub fn middle_of_many<T, O: Order<T>>(order: &O, items: &[T]) -> Option<usize>
     ensures { λ r. ⌜ FindsMiddle (O·Order .lesser) (now (items .entry)) r ⌝ }
 {
