@@ -1,4 +1,6 @@
 // Banks: channels numbered from 0, each of them read as a head is read.
+#![tactic(auto)]
+
 mod banks;
 mod faults;
 mod joined_banks;

@@ -16,6 +16,8 @@
 //
 // A refusal is printed with both figures:
 //   refused 16 channel 0 depth 0 figures 3 1
+#![tactic(auto)]
+
 ghost use Rattle.std.specs.Prelude.{◌<◌, length, IfSome};
 
 use settings::Setting;

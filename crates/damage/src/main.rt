@@ -7,6 +7,8 @@
 //   byte 73 is 2: note 17 rows 2 channels 3 last 19 40 4294967294
 // At the end stands what the writer says of notes, rows and entries that it refuses, and how much of its buffer is
 // then as it was.
+#![tactic(auto)]
+
 use encoding::write;
 use recordings::{ChannelEntry, Recording};
 use records::Fault;

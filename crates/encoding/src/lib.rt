@@ -1,4 +1,6 @@
 // Encoding: recordings written into the caller's buffer.
+#![tactic(auto)]
+
 mod checks;
 mod parts;
 mod refusals;

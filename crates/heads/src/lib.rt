@@ -1,4 +1,6 @@
 // Heads: everything that can be read, by its figures and the entries that wait in it.
+#![tactic(auto)]
+
 mod advancing;
 mod faults;
 mod plates;

@@ -1,4 +1,6 @@
 // Layers: heads over other heads.
+#![tactic(auto)]
+
 mod bursts;
 mod gathering;
 mod gears;

@@ -1,4 +1,6 @@
 // Lines: a fix or a fault as printed bytes, in a buffer that the caller lends.
+#![tactic(auto)]
+
 mod building;
 mod printing;
 mod refusals;

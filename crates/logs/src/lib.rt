@@ -1,4 +1,6 @@
 // Logs: records in places that the caller lends, and their middle.
+#![tactic(auto)]
+
 mod logs;
 mod middles;
 mod ordering;

@@ -1,4 +1,6 @@
 // middles: prints how many comparisons the middle of a list takes, for lists of growing length.
+#![tactic(auto)]
+
 mod counted;
 mod scattered;
 

@@ -1,4 +1,6 @@
 // Piles: what holds of any layers in turn over any head.
+#![tactic(auto)]
+
 mod standing;
 #[cfg(test)]
 mod tests;

@@ -1,4 +1,6 @@
 // Playbacks: a recording as a bank, in which each channel goes down the rows by itself.
+#![tactic(auto)]
+
 mod playing;
 mod rows;
 

@@ -1,4 +1,6 @@
 // record: makes a recording from the desk's table on standard input.
+#![tactic(auto)]
+
 use anyhow::anyhow;
 use sheets::{BadSheet, RecordError, Sheet};
 use std::alloc::Global;

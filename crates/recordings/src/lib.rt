@@ -1,4 +1,6 @@
 // Recordings: a note, rows of numbers and the channels' entries, as one run of bytes.
+#![tactic(auto)]
+
 mod checking;
 mod endings;
 mod entries;

@@ -1,4 +1,6 @@
 // Records that calls answer and logs keep, and the middle of items under an order.
+#![tactic(auto)]
+
 mod choosing;
 mod faults;
 mod fixes;

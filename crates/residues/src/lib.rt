@@ -1,4 +1,6 @@
 // Whole numbers round a circle, and Euclid's method.
+#![tactic(auto)]
+
 mod circle;
 mod divisors;
 

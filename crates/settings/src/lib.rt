@@ -1,4 +1,6 @@
 // Settings: a unit and factors that passed every check, and what they tell.
+#![tactic(auto)]
+
 mod checks;
 mod inverses;
 mod kept;

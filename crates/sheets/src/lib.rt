@@ -1,4 +1,6 @@
 // Sheets: a recording as the desk's table of text, and back.
+#![tactic(auto)]
+
 mod errors;
 mod lines;
 mod making;

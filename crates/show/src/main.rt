@@ -1,4 +1,6 @@
 // show: prints the recording on standard input as a table.
+#![tactic(auto)]
+
 use anyhow::anyhow;
 use sheets::printed;
 use std::env;

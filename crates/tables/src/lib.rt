@@ -1,4 +1,6 @@
 // The desk's text table, read line by line.
+#![tactic(auto)]
+
 mod answers;
 mod desks;
 mod errors;

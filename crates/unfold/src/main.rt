@@ -1,4 +1,6 @@
 // unfold: reads a table on standard input and prints, for each row, what it unfolds to or why it is refused.
+#![tactic(auto)]
+
 use anyhow::anyhow;
 use std::alloc::Global;
 use std::env;

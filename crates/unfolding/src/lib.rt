@@ -1,4 +1,6 @@
 // Unfolding: from one reading of each channel to folding numbers, bracket and mean.
+#![tactic(auto)]
+
 mod answers;
 mod checks;
 mod digits;
