@@ -1,5 +1,5 @@
 -- The first central item is the middle itself.
-use Rattle.std.proofs.Common.{◌≡◌, ℕ, zero, suc, ◌-◌, ◌/◌, ◌<◌, ◌≤◌, Bool, true, false, cond, ◌&&◌, leb, List, [], ◌∷◌, length, get_or, sym, refl, ◌∙◌, ⊎_elim, arith, le-leb, leb-true}
+use Rattle.std.proofs.Common.{◌≡◌, ℕ, zero, suc, ◌-◌, ◌/◌, ◌<◌, Bool, true, false, leb, List, [], ◌∷◌, length, get_or, refl, ⊎_elim, arith, le-leb, leb-true}
 use Rattle.std.proofs.lemmas.Bool.{cases_Bool, and_parts, and_from}
 use Rattle.records.specs.Middles.{smaller, greater, Central, FirstCentral, first_with, is_central, middle_of}
 

@@ -1,7 +1,7 @@
 -- Bezout's identity, Euclid's lemma, and products of pairwise coprime factors.
-use Rattle.std.proofs.Common.{◌≡◌, ℕ, zero, suc, ◌+◌, ◌-◌, ◌*◌, ◌/◌, ◌%◌, ◌<◌, ◌≤◌, List, [], ◌∷◌, length, get_or, take, ℤ, pos, negsuc, ◌+ℤ◌, ◌-ℤ◌, ◌*ℤ◌, neg_ℤ, sym, refl, ap, ◌∙◌, subst, mod-lt, mul_assoc, mul-le-mul_left, mul-pos, arith}
+use Rattle.std.proofs.Common.{◌≡◌, ℕ, zero, suc, ◌+◌, ◌*◌, ◌/◌, ◌%◌, ◌<◌, ◌≤◌, List, [], ◌∷◌, length, get_or, ℤ, pos, ◌+ℤ◌, ◌-ℤ◌, ◌*ℤ◌, sym, ap, ◌∙◌, subst, mod-lt, arith}
 use Prim.Native.Nat.{◌∣◌}
-use native.Mathlib.Nat.{div-add-mod, dvd-mul_right, dvd_of_mod-eq-zero}
+use native.Mathlib.Nat.{div-add-mod, dvd-mul_right}
 use Rattle.residues.specs.Divisors.{Coprime}
 use Rattle.residues.specs.Products.{product, PairwiseCoprime}
 use Rattle.residues.proofs.Ring.{ring, lin}

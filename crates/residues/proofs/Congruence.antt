@@ -1,5 +1,5 @@
 -- Whole numbers that are the same modulo m.
-use Rattle.std.proofs.Common.{◌≡◌, ℕ, zero, suc, ◌+◌, ◌-◌, ◌*◌, ◌/◌, ◌%◌, ◌<◌, ◌≤◌, ℤ, pos, negsuc, ◌+ℤ◌, ◌-ℤ◌, ◌*ℤ◌, neg_ℤ, sym, refl, ap, ◌∙◌, arith}
+use Rattle.std.proofs.Common.{◌≡◌, ℕ, suc, ◌+◌, ◌*◌, ◌/◌, ◌%◌, ◌<◌, ℤ, pos, negsuc, ◌+ℤ◌, ◌*ℤ◌, neg_ℤ, sym, ap, arith}
 use native.Mathlib.Nat.{div-add-mod, add-mul-mod_self_left}
 use Rattle.std.specs.Int.{int_div_euclid}
 use Rattle.residues.specs.Circle.{◌modulo◌}

@@ -1,10 +1,10 @@
 -- Division that rounds down, by its two bounds, and the remainder beside it.
-use Rattle.std.proofs.Common.{◌≡◌, ℕ, zero, suc, ◌+◌, ◌-◌, ◌*◌, ◌/◌, ◌%◌, ◌<◌, ◌≤◌, ℤ, pos, negsuc, ◌+ℤ◌, ◌-ℤ◌, ◌*ℤ◌, neg_ℤ, ◌≤ℤ◌, ◌<ℤ◌, sym, refl, ap, ◌∙◌, mod-lt, arith}
+use Rattle.std.proofs.Common.{◌≡◌, ℕ, ◌+◌, ◌*◌, ◌<◌, ℤ, pos, negsuc, ◌+ℤ◌, ◌*ℤ◌, neg_ℤ, ◌≤ℤ◌, ◌<ℤ◌, mod-lt, arith}
 use native.Mathlib.Nat.{div-add-mod, lt_of_mul-lt-mul_left}
 use borrow.Author.Differences.{up, down}
 use Rattle.std.specs.Int.{int_div_euclid}
 use Rattle.residues.specs.Circle.{◌modulo◌}
-use Rattle.residues.proofs.Ring.{ring, lin}
+use Rattle.residues.proofs.Ring.{lin}
 
 -- z is so many n, and its remainder
 pub split : (z : ℤ) (n : ℕ) → 0 < n → (z ≡ int_div_euclid z (pos n) *ℤ pos n +ℤ pos (z modulo n)) × (z modulo n < n)

@@ -1,5 +1,5 @@
 -- Products of the first factors of a list.
-use Rattle.std.proofs.Common.{◌≡◌, ℕ, zero, suc, ◌+◌, ◌-◌, ◌*◌, ◌<◌, ◌≤◌, List, [], ◌∷◌, length, get_or, take, sym, refl, ap, ◌∙◌, mul_assoc, mul-le-mul_left, mul-pos, add-one, arith}
+use Rattle.std.proofs.Common.{◌≡◌, ℕ, zero, suc, ◌*◌, ◌<◌, ◌≤◌, List, [], ◌∷◌, length, get_or, take, sym, refl, ap, ◌∙◌, mul_assoc, mul-le-mul_left, mul-pos, arith}
 use Rattle.residues.specs.Products.{product}
 
 pub product_more : (gs : List ℕ) (i : ℕ) → i < length gs → product (take (suc i) gs) ≡ product (take i gs) * get_or gs i 0

@@ -30,11 +30,11 @@ loop-p-preserved-in-Less g c =
 
 pub returns-in-Equal : goal.returns-in-Equal
 returns-in-Equal g c =
-    first_of g.O.Order.lesser g.O.Order.laws c.args.items.now c.in-Some.p c.first-equal.result c.index-items-p.result
+    first_of g.O.Order.lesser g.O.Order.laws c.args.items.now c.in-Some.p c.first_equal.result c.index-items-p.result
     c.in-Some.ensures.0 c.index-items-p.is
     (omega (arith, c.in-Equal.ensures.0, c.standing-below.ensures.below), omega (arith, c.in-Equal.ensures.1, c.standing-below.ensures.above))
-    c.first-equal.ensures
+    c.first_equal.ensures
 
 pub returns : goal.returns
 returns g c =
-    no_items g.O.Order.lesser g.O.Order.laws c.args.items.now c.loop-p.low c.loop-p.high c.loop-p.invariant.2 c.in-default.ensures
+    no_items g.O.Order.lesser g.O.Order.laws c.args.items.now c.loop-p.low c.loop-p.high c.loop-p.invariant.2 c.in_default.ensures

@@ -7,7 +7,7 @@ loop-rest-init c = start _ _ (omega arith)
 
 pub loop-rest-preserved : goal.loop-rest-preserved
 loop-rest-preserved c =
-    subst (State c.args.a c.args.m c.loop-rest.rest (c.loop-rest.high % c.loop-rest.rest) c.loop-rest.at_rest) (sym c.less-product-after.ensures)
+    subst (State c.args.a c.args.m c.loop-rest.rest (c.loop-rest.high % c.loop-rest.rest) c.loop-rest.at_rest) (sym c.less_product-after.ensures)
     (again c.args.a c.args.m c.loop-rest.high c.loop-rest.rest c.loop-rest.at_high c.loop-rest.at_rest (omega arith) (omega arith) c.loop-rest.invariant)
 
 pub returns : goal.returns
