@@ -16,7 +16,7 @@ pub struct Lone<H> {
 impl<H: Head> Bank for Lone<H> {
     ghost channels = { λ s. channel_of (H.Head.shape s.head) (H.Head.waiting s.head) ∷ [] };
 
-    ghost laws = { λ s. (H.Head.laws s.head, tt) };
+    ghost laws = { λ s. (lawful H.Head.laws s.head, tt) };
 
     fn count(&self) -> usize {
         1

@@ -12,11 +12,20 @@ pub record PlateLaws (f : Figures) : Type 0 where
   pub unfit_bound : f.fit ≡ false → f.bound ≡ 0
   pub unfit_depth : f.fit ≡ false → f.depth ≤ 256
 
--- a head of figures f in which w waits: nothing waits in an unfit one, and every waiting reading is below the modulus
+-- an unfit head has nothing waiting, and every waiting reading is below the modulus
+pub record HeadLaws {S : Type 0} (shape : S → Figures) (waiting : S → List Entry) : Type 0 where
+  pub plate : (s : S) → PlateLaws (shape s)
+  pub unfit_empty : (s : S) → (shape s).fit ≡ false → waiting s ≡ []
+  pub below : (s : S) → AllBelow (shape s).modulus (waiting s)
+
+-- the same of one head, of figures f, in which w waits
 pub record Lawful (f : Figures) (w : List Entry) : Type 0 where
   pub plate : PlateLaws f
   pub unfit_empty : f.fit ≡ false → w ≡ []
   pub below : AllBelow f.modulus w
 
-abbrev pub HeadLaws : {S : Type 0} → (shape : S → Figures) (waiting : S → List Entry) → Type 0
-HeadLaws {S} shape waiting = (s : S) → Lawful (shape s) (waiting s)
+pub head_laws : {S : Type 0} (shape : S → Figures) (waiting : S → List Entry) → ((s : S) → Lawful (shape s) (waiting s)) → HeadLaws shape waiting
+head_laws shape waiting l = record { plate = λ s. (l s).plate; unfit_empty = λ s. (l s).unfit_empty; below = λ s. (l s).below }
+
+pub lawful : {S : Type 0} {shape : S → Figures} {waiting : S → List Entry} → HeadLaws shape waiting → (s : S) → Lawful (shape s) (waiting s)
+lawful l s = record { plate = l.plate s; unfit_empty = l.unfit_empty s; below = l.below s }

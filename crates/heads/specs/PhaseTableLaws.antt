@@ -4,7 +4,7 @@ use Rattle.std.specs.Prelude.{◌≡◌, ℕ, ◌<◌, ◌≤◌, Bool, true, fa
 use Rattle.heads.specs.declared.plates.Figures.{Figures}
 use Rattle.heads.specs.Entries.{Entry, reading, faulty, dark, wild, Below, AllBelow}
 use Rattle.heads.specs.Figures.{fits, figures_of}
-use Rattle.heads.specs.Laws.{PlateLaws, Lawful}
+use Rattle.heads.specs.Laws.{PlateLaws, HeadLaws, Lawful, head_laws}
 use Rattle.heads.specs.PhaseTables.{entry_of, if_fit, table_told, table_waits}
 
 pub never : (b c : Bool) (A : Type 0) → b ≡ true → c ≡ false → b ≡ c → A
@@ -35,9 +35,12 @@ entries_below : (m : ℕ) (xs : List ℕ) → AllBelow m (map (entry_of m) xs)
 entries_below m [] = tt
 entries_below m (x ∷ xs) = (entry_below m x (x == 4294967295) (nat_lt x m) (ltb-true x m), entries_below m xs)
 
-pub table_laws : (m t : ℕ) (xs : List ℕ) → Lawful (table_told m t) (table_waits m t xs)
-table_laws m t xs = record {
+pub table_lawful : (m t : ℕ) (xs : List ℕ) → Lawful (table_told m t) (table_waits m t xs)
+table_lawful m t xs = record {
   plate = figures_laws (fits m t) m t 0 (λ e. e) (λ _. lit≤ tt) (lit≤ tt);
   unfit_empty = if_fit_empty (fits m t) m t 0 (map (entry_of m) xs);
   below = if_fit_below (fits m t) m t 0 (map (entry_of m) xs) (λ _. entries_below m xs);
 }
+
+pub table_laws : {S : Type 0} (m t : S → ℕ) (xs : S → List ℕ) → HeadLaws (λ s. table_told (m s) (t s)) (λ s. table_waits (m s) (t s) (xs s))
+table_laws m t xs = head_laws _ _ (λ s. table_lawful (m s) (t s) (xs s))

@@ -74,7 +74,7 @@ impl<'a> Head for PhaseTable<'a> {
 
     ghost waiting = { λ s. table_waits s.modulus s.bound (drop s.at s.numbers.now) };
 
-    ghost laws = { λ s. table_laws s.modulus s.bound (drop s.at s.numbers.now) };
+    ghost laws = { table_laws (λ s. s.modulus) (λ s. s.bound) (λ s. drop s.at s.numbers.now) };
 
     fn head_figures(&self) -> Figures {
         self.figures()

@@ -51,8 +51,8 @@ impl EncoderTrack {
 }
 
 // Reading number `k` of a track.
-fn reading_at(modulus: u32, start: u32, step: u32, grain: u32, k: usize) -> u32
-    requires { (0 < modulus) × ((0 < grain) × (k < 2 ^ 32)) }
+fn reading_at(modulus: u32, start: u32, step: u32, grain: u32, k: u32) -> u32
+    requires { (0 < modulus) × (0 < grain) }
     ensures { result ≡ track_reading modulus start step grain k }
 {
     let place = ((start as u64 + k as u64 * step as u64) % modulus as u64) as u32;
@@ -72,7 +72,7 @@ impl Head for EncoderTrack {
 
     ghost waiting = { λ s. track_waits s.modulus s.start s.step s.grain s.count s.taken };
 
-    ghost laws = { λ s. track_laws s.modulus s.start s.step s.grain s.count s.taken };
+    ghost laws = { track_laws (λ s. s.modulus) (λ s. s.start) (λ s. s.step) (λ s. s.grain) (λ s. s.count) (λ s. s.taken) };
 
     fn head_figures(&self) -> Figures {
         self.figures()
@@ -82,7 +82,7 @@ impl Head for EncoderTrack {
         fit_figures(self)?;
         let count = self.count as usize;
         match advance(&mut self.taken, count) {
-            Some(k) => Ok(reading_at(self.modulus, self.start, self.step, self.grain, k)),
+            Some(k) => Ok(reading_at(self.modulus, self.start, self.step, self.grain, k as u32)),
             None => Err(HeadFault::End),
         }
     }

@@ -4,7 +4,7 @@ use Rattle.std.specs.Prelude.{◌≡◌, ℕ, ◌+◌, ◌*◌, ◌%◌, ◌<◌
 use Rattle.heads.specs.declared.plates.Figures.{Figures}
 use Rattle.heads.specs.Entries.{Entry, reading, faulty, Below, AllBelow}
 use Rattle.heads.specs.Figures.{fits, figures_of}
-use Rattle.heads.specs.Laws.{PlateLaws, Lawful}
+use Rattle.heads.specs.Laws.{PlateLaws, HeadLaws, Lawful, head_laws}
 use Rattle.heads.specs.PhaseTables.{if_fit}
 use Rattle.heads.specs.PhaseTableLaws.{never, figures_laws}
 use Rattle.heads.specs.EncoderTrackLaws.{both_left, both_right}
@@ -33,21 +33,28 @@ turned_below g m n [] h a = tt
 turned_below g m n (reading r ∷ w) h a = (h r a.0, turned_below g m n w h a.1)
 turned_below g m n (faulty k d x y ∷ w) h a = (tt, turned_below g m n w h a.1)
 
-module _ (f : Figures) (w : List Entry) (below : Lawful f w) where
-  pub zero_laws : (z : ℕ) → Lawful (zero_told z f) (zero_waits z f w)
-  zero_laws z = record {
-    plate = layer_plate (zero_proper z f) f.modulus f.bound f f.fit refl (λ e _. below.plate.fit_limits e) below.plate;
+module _ (f : Figures) (w : List Entry) (plate : PlateLaws f) (below : AllBelow f.modulus w) where
+  pub zero_lawful : (z : ℕ) → Lawful (zero_told z f) (zero_waits z f w)
+  zero_lawful z = record {
+    plate = layer_plate (zero_proper z f) f.modulus f.bound f f.fit refl (λ e _. plate.fit_limits e) plate;
     unfit_empty = layer_empty f.fit (zero_proper z f && nat_le (f.depth + 1) 255) f.modulus f.bound f.depth (map (turned (zero_turns z f.modulus)) w);
     below = layer_below f.fit (zero_proper z f && nat_le (f.depth + 1) 255) f.modulus f.bound f.depth (map (turned (zero_turns z f.modulus)) w)
         (λ _ p. let l : z < f.modulus = ltb-true z f.modulus (both_left _ (nat_le (f.depth + 1) 255) p) in
-        turned_below (zero_turns z f.modulus) f.modulus f.modulus w (λ r _. mod-lt (r + z) (omega arith)) below.below);
+        turned_below (zero_turns z f.modulus) f.modulus f.modulus w (λ r _. mod-lt (r + z) (omega arith)) below);
   }
 
-  pub gear_laws : (a b : ℕ) → Lawful (gear_told a b f) (gear_waits a b f w)
-  gear_laws a b = record {
-    plate = layer_plate (gear_proper a b f) (f.modulus * a) (f.bound * a + b) f f.fit refl (λ _ p. both_right (nat_le 1 a) _ p) below.plate;
+  pub gear_lawful : (a b : ℕ) → Lawful (gear_told a b f) (gear_waits a b f w)
+  gear_lawful a b = record {
+    plate = layer_plate (gear_proper a b f) (f.modulus * a) (f.bound * a + b) f f.fit refl (λ _ p. both_right (nat_le 1 a) _ p) plate;
     unfit_empty = layer_empty f.fit (gear_proper a b f && nat_le (f.depth + 1) 255) (f.modulus * a) (f.bound * a + b) f.depth (map (turned (λ r. r * a)) w);
     below = layer_below f.fit (gear_proper a b f && nat_le (f.depth + 1) 255) (f.modulus * a) (f.bound * a + b) f.depth (map (turned (λ r. r * a)) w)
         (λ _ p. let l : 1 ≤ a = leb-true 1 a (both_left (nat_le 1 a) _ (both_left _ (nat_le (f.depth + 1) 255) p)) in
-        turned_below (λ r. r * a) f.modulus (f.modulus * a) w (λ r h. mul-lt-mul_of_pos_right h l) below.below);
+        turned_below (λ r. r * a) f.modulus (f.modulus * a) w (λ r h. mul-lt-mul_of_pos_right h l) below);
   }
+
+module _ {S : Type 0} (f : S → Figures) (w : S → List Entry) (plate : (s : S) → PlateLaws (f s)) (below : (s : S) → AllBelow (f s).modulus (w s)) where
+  pub zero_laws : (z : S → ℕ) → HeadLaws (λ s. zero_told (z s) (f s)) (λ s. zero_waits (z s) (f s) (w s))
+  zero_laws z = head_laws _ _ (λ s. zero_lawful (f s) (w s) (plate s) (below s) (z s))
+
+  pub gear_laws : (a b : S → ℕ) → HeadLaws (λ s. gear_told (a s) (b s) (f s)) (λ s. gear_waits (a s) (b s) (f s) (w s))
+  gear_laws a b = head_laws _ _ (λ s. gear_lawful (f s) (w s) (plate s) (below s) (a s) (b s))

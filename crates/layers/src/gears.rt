@@ -76,7 +76,7 @@ impl<H: Head> Head for Gear<H> {
 
     ghost waiting = { λ s. gear_waits s.scale s.slack (H.Head.shape s.below) (H.Head.waiting s.below) };
 
-    ghost laws = { λ s. gear_laws (H.Head.shape s.below) (H.Head.waiting s.below) (H.Head.laws s.below) s.scale s.slack };
+    ghost laws = { gear_laws (λ s. H.Head.shape s.below) (λ s. H.Head.waiting s.below) (λ s. H.Head.laws.plate s.below) (λ s. H.Head.laws.below s.below) (λ s. s.scale) (λ s. s.slack) };
 
     fn head_figures(&self) -> Figures {
         self.figures()

@@ -49,7 +49,7 @@ impl<H: Head> Head for Zero<H> {
 
     ghost waiting = { λ s. zero_waits s.zero (H.Head.shape s.below) (H.Head.waiting s.below) };
 
-    ghost laws = { λ s. zero_laws (H.Head.shape s.below) (H.Head.waiting s.below) (H.Head.laws s.below) s.zero };
+    ghost laws = { zero_laws (λ s. H.Head.shape s.below) (λ s. H.Head.waiting s.below) (λ s. H.Head.laws.plate s.below) (λ s. H.Head.laws.below s.below) (λ s. s.zero) };
 
     fn head_figures(&self) -> Figures {
         self.figures()

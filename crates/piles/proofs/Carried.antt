@@ -3,16 +3,16 @@ use Rattle.std.proofs.Common.{List, [], ◌∷◌, ℤ, sym, subst}
 use Rattle.heads.specs.Channels.{Channel}
 use Rattle.heads.specs.Laws.{Lawful}
 use Rattle.heads.specs.Standing.{Stands}
-use Rattle.layers.specs.BurstLaws.{burst_laws}
-use Rattle.layers.specs.LayeringLaws.{zero_laws, gear_laws}
+use Rattle.layers.specs.BurstLaws.{burst_lawful}
+use Rattle.layers.specs.LayeringLaws.{zero_lawful, gear_lawful}
 use Rattle.layers.proofs.Standing.{zero_stands, gear_stands}
 use Rattle.layers.proofs.Steady.{burst_stands}
 use Rattle.piles.specs.Piles.{Layer, zero_layer, gear_layer, burst_layer, laid, Carries, pile, Carry, PilesLawful, PilesStand}
 
 laid_lawful : (l : Layer) (c : Channel) → Lawful c.figures c.waits → Lawful (laid l c).figures (laid l c).waits
-laid_lawful (zero_layer z) c h = zero_laws c.figures c.waits h z
-laid_lawful (gear_layer s w) c h = gear_laws c.figures c.waits h s w
-laid_lawful (burst_layer b) c h = burst_laws c.figures c.waits h b
+laid_lawful (zero_layer z) c h = zero_lawful c.figures c.waits h.plate h.below z
+laid_lawful (gear_layer s w) c h = gear_lawful c.figures c.waits h.plate h.below s w
+laid_lawful (burst_layer b) c h = burst_lawful c.figures c.waits h b
 
 laid_stands : (l : Layer) (c : Channel) (P Q : ℤ) → Lawful c.figures c.waits → Stands c P → Carries l P Q → Stands (laid l c) Q
 laid_stands (zero_layer z) c P Q h a k = zero_stands z c P Q a k

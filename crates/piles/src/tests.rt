@@ -1,4 +1,5 @@
 // Piles that are read, with expected values worked by hand.
+ghost use Rattle.heads.specs.Laws.{head_laws};
 ghost use Rattle.piles.specs.Deep.{deep_laws, deep_told, deep_waits};
 
 use heads::{EncoderTrack, Figures, Head, HeadFault, PhaseTable, Plate};
@@ -30,7 +31,7 @@ impl Head for Deep {
 
     ghost waiting = { λ _. deep_waits };
 
-    ghost laws = { λ s. deep_laws s.depth };
+    ghost laws = { head_laws (λ s. deep_told s.depth) (λ s. deep_waits) (λ s. deep_laws s.depth) };
 
     fn head_figures(&self) -> Figures {
         self.figures()

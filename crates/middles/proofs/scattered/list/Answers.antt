@@ -13,7 +13,7 @@ pub loop-place-preserved : goal.loop-place-preserved
 loop-place-preserved c =
     let fits : SFits w64 c.scattered.result = search rules in
     one_more c.loop-place.place (vec_items c.loop-place.numbers) (vec_items c.push.new.self) (to_z w64 (of_z w64 c.scattered.result))
-    c.in-ok-push.ensures.items (to_z-of_z w64 c.scattered.result fits ∙ c.scattered.ensures) c.loop-place.invariant
+    c.in_ok-push.ensures.items (to_z-of_z w64 c.scattered.result fits ∙ c.scattered.ensures) c.loop-place.invariant
 
 pub returns-in-err-push : goal.returns-in-err-push
 returns-in-err-push c = IfOk-from_err c.from-residual.result _ c.from-residual.ensures.0
