@@ -1,6 +1,7 @@
 // Lone banks: one channel, over any head.
 ghost use Rattle.std.specs.Prelude.{◌≡◌, [], ◌∷◌};
 ghost use Rattle.heads.specs.Channels.{channel_of};
+ghost use Rattle.heads.specs.Laws.{lawful};
 
 mod making;
 
