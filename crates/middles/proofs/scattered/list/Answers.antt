@@ -15,5 +15,5 @@ loop-place-preserved c =
     one_more c.loop-place.place (vec_items c.loop-place.numbers) (vec_items c.push.new.self) (to_z w64 (of_z w64 c.scattered.result))
     c.in_ok-push.ensures.items (to_z-of_z w64 c.scattered.result fits ∙ c.scattered.ensures) c.loop-place.invariant
 
-pub returns-in-err-push : goal.returns-in-err-push
-returns-in-err-push c = IfOk-from_err c.from-residual.result _ c.from-residual.ensures.0
+pub returns-in_err-push : goal.returns-in_err-push
+returns-in_err-push c = IfOk-from_err c.from_residual.result _ c.from_residual.ensures.0

@@ -4,6 +4,6 @@ use Rattle.layers.proofs.gears.GearHead.read.Goals as goal
 pub scaled-requires : goal.scaled-requires
 scaled-requires g c =
     let s = c.args.self.now in
-    scaled_fits c.in-ok-reading.reading s.scale _
-    (answered_below _ _ _ c.in-ok-reading.reading (g.H.Head.waiting s.below) (g.H.Head.laws.below s.below) c.in-ok-reading.ensures.answers)
-    (gear_passed s.scale s.slack (g.H.Head.shape s.below) _ c.in-ok-fit-figures.ensures)
+    scaled_fits c.in_ok-reading.reading s.scale _
+    (answered_below _ _ _ c.in_ok-reading.reading (g.H.Head.waiting s.below) (g.H.Head.laws.below s.below) c.in_ok-reading.ensures.answers)
+    (gear_passed s.scale s.slack (g.H.Head.shape s.below) _ c.in_ok-fit_figures.ensures)

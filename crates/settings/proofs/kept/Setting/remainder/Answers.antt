@@ -14,11 +14,11 @@ returns-then-channel-self c =
     let few : s.count ≤ length s.factors = search rules in
     record { told = (omega (arith, s.range_is), omega (arith, length-take-le s.count s.factors few), refl); only = one_position _ _ (passed s few) }
 
-pub nonzero-rem-result : goal.nonzero-rem-result
-nonzero-rem-result c = modulus_pos c.args.self.now _ (search rules) (omega arith)
+pub nonzero_rem-result : goal.nonzero_rem-result
+nonzero_rem-result c = modulus_pos c.args.self.now _ (search rules) (omega arith)
 
-pub overflow-cast-result-2 : goal.overflow-cast-result-2
-overflow-cast-result-2 c = omega (arith, mod-lt c.args.position (nonzero-rem-result c))
+pub overflow_cast-result-2 : goal.overflow_cast-result-2
+overflow_cast-result-2 c = omega (arith, mod-lt c.args.position (nonzero_rem-result c))
 
 pub returns : goal.returns
 returns c =
