@@ -17,7 +17,7 @@ reduced_read {r} {R} {R'} {z} {z'} e f g = e ∙ ap (λ n. z modulo n) f ∙ ap 
 pub ends-ends-requires : goal.ends-ends-requires
 ends-ends-requires c =
     let a = c.check.ensures.accepted in
-    let fine = c.in-ok-check.ensures.checked in
+    let fine = c.in_ok-check.ensures.checked in
     let d = c.fold-folding.ensures in
     let cs = c.unfolded-unfolded.result.now in
     let cut = c.unfolded-unfolded.ensures in
@@ -27,20 +27,20 @@ ends-ends-requires c =
 pub contradictory-requires : goal.contradictory-requires
 contradictory-requires c =
     let a = c.check.ensures.accepted in
-    let fine = c.in-ok-check.ensures.checked in
+    let fine = c.in_ok-check.ensures.checked in
     let d = c.fold-folding.ensures in
     let cs = c.unfolded-unfolded.result.now in
     let cut = c.unfolded-unfolded.ensures in
-    let s = c.ends-ends.ensures.small in (
-      (paired _ _ _ _ a fine _ d cs cut (search rules), (moderate _ _ _ _ a fine _ d cs cut (search rules), (weaker _ _ (less_read _ _ s.1 s.0 c.if-ends.true), (s.0, s.1)))),
-      c.ends-ends.ensures.lo,
-      c.ends-ends.ensures.hi,
-    )
+    let s = c.ends-ends.ensures.small in (record {
+      bounds_len = (paired _ _ _ _ a fine _ d cs cut (search rules), (moderate _ _ _ _ a fine _ d cs cut (search rules), (weaker _ _ (less_read _ _ s.1 s.0 c.if-ends.true), (s.0, s.1))));
+      by_index = c.ends-ends.ensures.lo;
+      by_index_2 = c.ends-ends.ensures.hi;
+    })
 
 pub returns-then-ends : goal.returns-then-ends
 returns-then-ends c =
     let s = c.ends-ends.ensures.small in
-    let refused = contradicted _ _ _ _ c.check.ensures.accepted c.in-ok-check.ensures.checked _ c.fold-folding.ensures c.unfolded-unfolded.result.now c.unfolded-unfolded.ensures (search rules)
+    let refused = contradicted _ _ _ _ c.check.ensures.accepted c.in_ok-check.ensures.checked _ c.fold-folding.ensures c.unfolded-unfolded.result.now c.unfolded-unfolded.ensures (search rules)
     _ _ (less_read _ _ s.1 s.0 c.if-ends.true) _ c.contradictory.ensures in
     record {
       answers = refused;
@@ -52,7 +52,7 @@ returns-then-ends c =
 pub rounded-requires : goal.rounded-requires
 rounded-requires c =
     let a = c.check.ensures.accepted in
-    let fine = c.in-ok-check.ensures.checked in
+    let fine = c.in_ok-check.ensures.checked in
     let d = c.fold-folding.ensures in
     let cs = c.unfolded-unfolded.result.now in
     let cut = c.unfolded-unfolded.ensures in
@@ -63,7 +63,7 @@ pub returns : goal.returns
 returns c =
     let s = c.ends-ends.ensures.small in
     let range = c.range-range.ensures in
-    let told = unfolds _ _ _ _ c.check.ensures.accepted c.in-ok-check.ensures.checked _ c.fold-folding.ensures c.unfolded-unfolded.result.now c.unfolded-unfolded.ensures (search rules)
+    let told = unfolds _ _ _ _ c.check.ensures.accepted c.in_ok-check.ensures.checked _ c.fold-folding.ensures c.unfolded-unfolded.result.now c.unfolded-unfolded.ensures (search rules)
     _ refl (search rules) (search rules) c.ends-ends.ensures.lo c.ends-ends.ensures.hi (not_less_read _ _ s.1 s.0 c.if-ends.false)
     (reduced_read c.bracket-start.ensures.0 range refl) c.bracket-start.ensures.1
     (reduced_read c.reduced-mean.ensures range (to_z-of_z w64 c.rounded.result (search rules) ∙ c.rounded.ensures)) in
@@ -74,10 +74,10 @@ returns c =
       found = is_found _ _ _ _ c.check.ensures.accepted _ told;
     }
 
-pub returns-in-err-check : goal.returns-in-err-check
-returns-in-err-check c =
-    let p = err_from_is_err_and c.from-residual.result c.from-residual.ensures.1 in
-    let refused = c.in-err-check.ensures.checked in
+pub returns-in_err-check : goal.returns-in_err-check
+returns-in_err-check c =
+    let p = err_from_is_err_and c.from_residual.result c.from_residual.ensures.1 in
+    let refused = c.in_err-check.ensures.checked in
     rw (p.1, p.2) (record {
       answers = refused;
       robust = robust_remainders;

@@ -8,8 +8,8 @@ loop-j-preserved c =
     let j = c.loop-j.j in
     let is = c.args.inverses.now in
     let ds = c.args.digits.now in (
-      c.less-digit-left.ensures.0,
-      ap (λ x. peeled c.args.factor x (drop (j + 1) is) (drop (j + 1) ds)) c.less-digit-left.ensures.1
+      c.less_digit-left.ensures.0,
+      ap (λ x. peeled c.args.factor x (drop (j + 1) is) (drop (j + 1) ds)) c.less_digit-left.ensures.1
           ∙ sym (peeled_more c.args.factor c.loop-j.left j is ds (omega arith) (omega arith)) ∙ c.loop-j.invariant.1,
     )
 

@@ -35,7 +35,7 @@ returns c =
       lo = greatest_of c.loop-k.k _ _ _ n (i, g);
       hi = least_of c.loop-k.k _ _ _ n (j, l);
       small = (
-        end_small (get_or c.args.unfolded.now i (pos 0)) _ (get_or c.args.bounds.now i 0) (c.requires.1.1 i (omega (arith, g.within))) (omega (arith, c.type-inv.bounds i)) (inl (sym g.gives)),
-        end_small (get_or c.args.unfolded.now j (pos 0)) _ (get_or c.args.bounds.now j 0) (c.requires.1.1 j (omega (arith, l.within))) (omega (arith, c.type-inv.bounds j)) (inr (sym l.gives)),
+        end_small (get_or c.args.unfolded.now i (pos 0)) _ (get_or c.args.bounds.now i 0) (c.requires.1.1 i (omega (arith, g.within))) (omega (arith, c.type_inv.bounds i)) (inl (sym g.gives)),
+        end_small (get_or c.args.unfolded.now j (pos 0)) _ (get_or c.args.bounds.now j 0) (c.requires.1.1 j (omega (arith, l.within))) (omega (arith, c.type_inv.bounds j)) (inr (sym l.gives)),
       );
     }

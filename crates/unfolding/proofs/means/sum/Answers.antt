@@ -5,8 +5,8 @@ use Rattle.unfolding.proofs.Fitting.{FromTo}
 use Rattle.unfolding.proofs.Averages.{total_moderate, sum_fits, eight}
 use Rattle.unfolding.proofs.means.sum.Goals as goal
 
-pub overflow-add-sum : goal.overflow-add-sum
-overflow-add-sum c =
+pub overflow_add-sum : goal.overflow_add-sum
+overflow_add-sum c =
     let k = c.loop-k.k in
     let at = to_z-of_z w64 (get_or c.args.unfolded.now k (pos 0)) (search rules) in
     sum_fits k _ _ (omega arith) (subst (FromTo (k * 2 ^ 42)) (sym c.loop-k.invariant) (total_moderate c.args.unfolded.now k (omega arith) c.requires.1))
@@ -17,7 +17,7 @@ loop-k-preserved c =
     let k = c.loop-k.k in
     let f : ℕ → ℤ = λ i. get_or c.args.unfolded.now i (pos 0) in
     let at = to_z-of_z w64 (f k) (search rules) in
-    to_z-of_z w64 _ (overflow-add-sum c) ∙ ap (λ z. z +ℤ to_z w64 (of_z w64 (f k))) c.loop-k.invariant ∙ ap (λ z. total k f +ℤ z) at ∙ ap (λ n. total n f) (sym (add-one k))
+    to_z-of_z w64 _ (overflow_add-sum c) ∙ ap (λ z. z +ℤ to_z w64 (of_z w64 (f k))) c.loop-k.invariant ∙ ap (λ z. total k f +ℤ z) at ∙ ap (λ n. total n f) (sym (add-one k))
 
 pub returns : goal.returns
 returns c =

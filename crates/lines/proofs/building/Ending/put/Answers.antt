@@ -5,6 +5,6 @@ use Rattle.lines.proofs.building.Ending.put.Goals as goal
 pub returns : goal.returns
 returns c =
     record {
-      text = text_before c.args.self.now.bytes c.args.text.now c.copy-from-slice.new.self c.args.self.now.at (omega arith) (omega arith) c.copy-from-slice.ensures.after;
+      text = text_before c.args.self.now.bytes c.args.text.now c.copy_from_slice.new.self c.args.self.now.at (omega arith) (omega arith) c.copy_from_slice.ensures.after;
       at = omega arith;
     }

@@ -4,11 +4,11 @@ use Rattle.recordings.specs.Contents.{entries_of, entry_from}
 use Rattle.recordings.proofs.Columns.{entry_found, length_entries_in}
 use Rattle.recordings.proofs.recording.Recording.entry.Goals as goal
 
-pub returns-then-channel-channel-count : goal.returns-then-channel-channel-count
-returns-then-channel-channel-count c = sym (slice_get_past (entries_of c.args.self.now) c.args.channel (omega arith))
+pub returns-then-channel-channel_count : goal.returns-then-channel-channel_count
+returns-then-channel-channel_count c = sym (slice_get_past (entries_of c.args.self.now) c.args.channel (omega arith))
 
-pub entry-at-requires : goal.entry-at-requires
-entry-at-requires c = omega (arith, length_entries_in c.args.self.now.entries.now)
+pub entry_at-requires : goal.entry_at-requires
+entry_at-requires c = omega (arith, length_entries_in c.args.self.now.entries.now)
 
 pub returns : goal.returns
-returns c = ap Some (c.entry-at.ensures ∙ ap (entry_from c.args.self.now.entries.now) (zero-add (8 * c.args.channel))) ∙ sym (entry_found c.args.self.now.entries.now c.args.channel (omega (arith, length_entries_in c.args.self.now.entries.now)))
+returns c = ap Some (c.entry_at.ensures ∙ ap (entry_from c.args.self.now.entries.now) (zero-add (8 * c.args.channel))) ∙ sym (entry_found c.args.self.now.entries.now c.args.channel (omega (arith, length_entries_in c.args.self.now.entries.now)))

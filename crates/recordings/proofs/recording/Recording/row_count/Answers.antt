@@ -7,6 +7,6 @@ use Rattle.recordings.proofs.recording.Recording.row_count.Goals as goal
 pub returns : goal.returns
 returns c =
     let s = c.args.self.now in
-    let n : c.rows-in.result ≡ length (rows_of s) / length (entries_of s) =
-    c.rows-in.ensures ∙ ap (λ z. z / c.channel-count.result) (sym (length_numbers s.rows.now)) ∙ ap (λ z. length (rows_of s) / z) c.channel-count.ensures in
+    let n : c.rows_in.result ≡ length (rows_of s) / length (entries_of s) =
+    c.rows_in.ensures ∙ ap (λ z. z / c.channel_count.result) (sym (length_numbers s.rows.now)) ∙ ap (λ z. length (rows_of s) / z) c.channel_count.ensures in
     record { count = n; columns = λ k. length_column (rows_of s) (length (entries_of s)) k 0 _ ∙ sym n }
