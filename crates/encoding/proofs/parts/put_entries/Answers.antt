@@ -8,8 +8,8 @@ use Rattle.encoding.proofs.parts.put_entries.Goals as goal
 
 pub loop-channel-preserved : goal.loop-channel-preserved
 loop-channel-preserved c =
-    let long : length c.put-entry.new.part ≡ 8 = ap length c.put-entry.ensures in
-    part_more (λ (e : ChannelEntry). flat_map bytes_of (pair_of e)) c.loop-channel.channel c.args.entries.now _ _ _ _ c.loop-channel.part c.put-entry.new.part (omega arith) (omega arith) (omega arith) c.put-entry.ensures c.loop-channel.invariant
+    let long : length c.put_entry.new.part ≡ 8 = ap length c.put_entry.ensures in
+    part_more (λ (e : ChannelEntry). flat_map bytes_of (pair_of e)) c.loop-channel.channel c.args.entries.now _ _ _ _ c.loop-channel.part c.put_entry.new.part (omega arith) (omega arith) (omega arith) c.put_entry.ensures c.loop-channel.invariant
 
 pub returns : goal.returns
 returns c = part_all (λ (e : ChannelEntry). flat_map bytes_of (pair_of e)) c.loop-channel.channel c.args.entries.now _ c.loop-channel.part (omega arith) (omega arith) c.loop-channel.invariant ∙ joined_twice bytes_of pair_of c.args.entries.now

@@ -8,11 +8,11 @@ use Rattle.recordings.proofs.Places.{length_encoded}
 use Rattle.encoding.proofs.Passing.{whole_rows}
 use Rattle.encoding.proofs.writing.fill.Goals as goal
 
-pub put-all-requires : goal.put-all-requires
-put-all-requires c =
+pub put_all-requires : goal.put_all-requires
+put_all-requires c =
     let p = c.requires in
     let l = length_encoded c.args.note.now c.args.rows.now c.args.entries.now in
-    ((p.counted.some, p.counted.few), omega (arith, p.fits_in.in_room), omega (arith, p.fits_in.in_limit))
+    (record { in_bounds = (p.counted.some, p.counted.few); entries_in_bounds = omega (arith, p.fits_in.in_room); rows_len_bound = omega (arith, p.fits_in.in_limit) })
 
 pub returns : goal.returns
 returns c =
@@ -21,20 +21,20 @@ returns c =
     let es = c.args.entries.now in
     let p = c.requires in
     let l = length_encoded note xs es in
-    let n : c.put-all.result ≡ length (encoded note xs es) = c.put-all.ensures.end ∙ sym l in
+    let n : c.put_all.result ≡ length (encoded note xs es) = c.put_all.ensures.end ∙ sym l in
     let r : Recordable note xs es = record {
       some = p.counted.some;
       few = p.counted.few;
       whole = whole_rows xs es p.whole;
-      small = All-from_get_or (λ x. x < 2 ^ 32) xs 0 (λ i _. omega (arith, (c.type-inv.rows i).fits));
+      small = All-from_get_or (λ x. x < 2 ^ 32) xs 0 (λ i _. omega (arith, (c.type_inv.rows i).fits));
       fit = p.fit;
       reached = omega (arith, p.fits_in.in_limit);
     } in
-    let front : take c.put-all.result c.put-all.new.out ≡ encoded note xs es = ap (take c.put-all.result) c.put-all.ensures.after ∙ take_at (encoded note xs es) _ c.put-all.result (sym n) in
+    let front : take c.put_all.result c.put_all.new.out ≡ encoded note xs es = ap (take c.put_all.result) c.put_all.ensures.after ∙ take_at (encoded note xs es) _ c.put_all.result (sym n) in
     record {
       passes = p;
       recordable = r;
       length_is = n;
-      holds = c.put-all.ensures.after;
-      read_back = reads_back (take c.put-all.result c.put-all.new.out) note xs es (record { recordable = r; bytes_are = front });
+      holds = c.put_all.ensures.after;
+      read_back = reads_back (take c.put_all.result c.put_all.new.out) note xs es (record { recordable = r; bytes_are = front });
     }

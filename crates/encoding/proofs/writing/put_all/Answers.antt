@@ -22,4 +22,4 @@ returns c =
     let j : flat_map bytes_of xs ++ (flat_map bytes_of ps ++ flat_map bytes_of ws) ≡ flat_map bytes_of (xs ++ (ps ++ ws)) =
     ap (λ z. flat_map bytes_of xs ++ z) (sym (joined_append bytes_of ps ws)) ∙ sym (joined_append bytes_of xs (ps ++ ws)) in
     let whole = t ∙ ap (λ z. (note ++ z) ++ drop (length note + 4 * length xs + 8 * length es + 16) out) j in
-    record { end = refl; after = simp (c.ending-of-ending.ensures, c.copy-from-slice.ensures.after, c.put-numbers.ensures, c.put-entries.ensures, c.put-numbers-2.ensures) whole }
+    record { end = refl; after = simp (c.ending_of-ending.ensures, c.copy_from_slice.ensures.after, c.put_numbers.ensures, c.put_entries.ensures, c.put_numbers-2.ensures) whole }
