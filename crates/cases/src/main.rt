@@ -96,7 +96,7 @@ fn read_unit(text: &[u8], factors: &mut Vec<u32>) -> Option<u32> {
     let (_, rest) = first_word(text)?;
     let (unit, rest) = first_number(rest)?;
     let (word, mut rest) = first_word(rest)?;
-    if word != b"factors" {
+    if word != b"factors".as_slice() {
         return None;
     }
     while let Some((factor, after)) = first_number(rest) {
@@ -113,7 +113,7 @@ fn read_unit(text: &[u8], factors: &mut Vec<u32>) -> Option<u32> {
 /// The position and channel of a line `remainder N K`.
 fn read_remainder(text: &[u8]) -> Option<(u64, usize)> {
     let (word, rest) = first_word(text)?;
-    if word != b"remainder" {
+    if word != b"remainder".as_slice() {
         return None;
     }
     let (position, rest) = first_word(rest)?;

@@ -24,7 +24,7 @@ fn misread(why: NoNumber, place: usize) -> BadText
 fn number_at(word: &[u8], place: usize, dark: bool) -> Result<u32, BadText>
     ensures { result ≡ number_at dark place word.now }
 {
-    if word == b"-" {
+    if word == b"-".as_slice() {
         return if dark {
             Ok(DARK)
         } else {
