@@ -5,4 +5,3 @@ pub mod Rounds
 pub mod JoinedBanks
 pub mod JoinedPlaces
 pub mod JoinedBankLaws
-pub mod Meanings

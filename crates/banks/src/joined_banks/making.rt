@@ -1,7 +1,6 @@
 // How a joined bank is made.
 ghost use Rattle.std.specs.Prelude.{◌≡◌};
 ghost use Rattle.banks.specs.JoinedBanks.{Joins};
-ghost use Rattle.banks.specs.Meanings.{channels_of_joined};
 
 use super::Joined;
 use crate::Bank;
@@ -11,7 +10,7 @@ impl<A: Bank, B: Bank> Joined<A, B> {
     pub fn new(first: A, second: B) -> Joined<A, B>
         ensures first { result.first ≡ first }
         ensures second { result.second ≡ second }
-        ensures channels { Joins (A.Bank.channels first) (B.Bank.channels second) (channels_of_joined A.row B.row A.Bank B.Bank result) }
+        ensures channels { Joins (A.Bank.channels first) (B.Bank.channels second) (⟦<Joined<A, B> as Bank>⟧.channels result) }
     {
         Joined { first, second }
     }

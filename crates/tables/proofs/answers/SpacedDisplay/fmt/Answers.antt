@@ -11,7 +11,7 @@ loop-n-preserved g c =
     λ plain.
     let so = c.loop-n.invariant plain in
     has_written_of_eq g.W.Write.write_str_gives _ _ _ _ (spaced_more _ _ c.loop-n-test.true)
-    (has_written_append g.W.Write.write_str_gives _ _ _ _ _ so (c.write.ensures.writes so.plain (ap is_ok c.in-ok-write.was)))
+    (has_written_append g.W.Write.write_str_gives _ _ _ _ _ so (c.write.ensures.writes so.plain (ap is_ok c.in_ok-write.was)))
 
 pub returns-clause-writes : goal.returns-clause-writes
 returns-clause-writes g c = λ plain ok. has_written_of_eq g.W.Write.write_str_gives _ _ _ _ (spaced_all _ _ c.loop-n-test.false) (c.loop-n.invariant plain)

@@ -1,5 +1,5 @@
 use Rattle.tables.proofs.Headed.{same_moduli}
 use Rattle.tables.proofs.desks.Desk.line.Goals as goal
 
-pub invariant-of-self-2 : goal.invariant-of-self-2
-invariant-of-self-2 c = (c.made-self.ensures.when, (∣ same_moduli _ _ _ _ c.as-slice.ensures.value c.made-self.ensures ∣₁, tt))
+pub invariant_of-self-2 : goal.invariant_of-self-2
+invariant_of-self-2 c = record { made_when = c.made-self.ensures.when; made_from = ∣ same_moduli _ _ _ _ c.as_slice.ensures.value c.made-self.ensures ∣₁ }

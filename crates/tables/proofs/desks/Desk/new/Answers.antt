@@ -2,5 +2,5 @@ use Rattle.std.proofs.Common.{◌≡◌, false, sym, refl}
 use Rattle.tables.proofs.Headed.{none_seen}
 use Rattle.tables.proofs.desks.Desk.new.Goals as goal
 
-pub invariant-of-result : goal.invariant-of-result
-invariant-of-result c = (none_seen c.new.result c.new.ensures, (∣ tt ∣₁, tt))
+pub invariant_of-result : goal.invariant_of-result
+invariant_of-result c = record { made_when = none_seen c.new.result c.new.ensures; made_from = ∣ tt ∣₁ }

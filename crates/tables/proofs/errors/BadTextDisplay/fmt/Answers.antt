@@ -1,7 +1,7 @@
 use Rattle.tables.proofs.errors.BadTextDisplay.fmt.Goals as goal
 
 pub returns-in-LateNote-clause-writes : goal.returns-in-LateNote-clause-writes
-returns-in-LateNote-clause-writes g c = rw c.in-LateNote.is c.write-str-in-LateNote.ensures.writes
+returns-in-LateNote-clause-writes g c = rw c.in-LateNote.is c.write_str-in-LateNote.ensures.writes
 
 pub returns-in-NotNumber-clause-writes : goal.returns-in-NotNumber-clause-writes
 returns-in-NotNumber-clause-writes g c = rw c.in-NotNumber.is c.write.ensures.writes
