@@ -6,8 +6,8 @@ use Rattle.std.specs.List.{AllByRecursion as All}
 use Rattle.sheets.specs.Printing.{Visible, visible}
 use Rattle.sheets.proofs.printing.all_visible.Goals as goal
 
-pub returns-then-not-is-visible : goal.returns-then-not-is-visible
-returns-then-not-is-visible c =
+pub returns-then-not-is_visible : goal.returns-then-not-is_visible
+returns-then-not-is_visible c =
     λ all.
     let v : visible (get_or c.args.note.now c.loop-b.b-index 0) ≡ false = search rules in
     both_ways _ v (All-get_or Visible c.args.note.now c.loop-b.b-index 0 (omega arith) all)

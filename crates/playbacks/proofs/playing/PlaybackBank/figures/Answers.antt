@@ -4,12 +4,12 @@ use Rattle.playbacks.specs.Playing.{playback_channels}
 use Rattle.playbacks.proofs.Played.{tells_none, tells_there}
 use Rattle.playbacks.proofs.playing.PlaybackBank.figures.Goals as goal
 
-pub returns-in-None-entry-of : goal.returns-in-None-entry-of
-returns-in-None-entry-of c =
+pub returns-in-None-entry_of : goal.returns-in-None-entry_of
+returns-in-None-entry_of c =
     let s = c.args.self.now in
-    tells_none c.in-Some.recording s.rows c.args.channel c.in-None-entry-of.ensures ∙ ap (λ o. channel_figures c.args.channel (playback_channels o s.rows)) (sym c.in-Some.is)
+    tells_none c.in-Some.recording s.rows c.args.channel c.in-None-entry_of.ensures ∙ ap (λ o. channel_figures c.args.channel (playback_channels o s.rows)) (sym c.in-Some.is)
 
-pub returns-in-Some-entry-of : goal.returns-in-Some-entry-of
-returns-in-Some-entry-of c =
+pub returns-in-Some-entry_of : goal.returns-in-Some-entry_of
+returns-in-Some-entry_of c =
     let s = c.args.self.now in
-    tells_there c.in-Some.recording s.rows c.args.channel c.in-Some-entry-of.entry c.in-Some-entry-of.ensures c.figures.result c.figures.ensures ∙ ap (λ o. channel_figures c.args.channel (playback_channels o s.rows)) (sym c.in-Some.is)
+    tells_there c.in-Some.recording s.rows c.args.channel c.in-Some-entry_of.entry c.in-Some-entry_of.ensures c.figures.result c.figures.ensures ∙ ap (λ o. channel_figures c.args.channel (playback_channels o s.rows)) (sym c.in-Some.is)

@@ -12,8 +12,8 @@ pub loop-channel-preserved : goal.loop-channel-preserved
 loop-channel-preserved g c =
     λ plain.
     let so = c.loop-channel.invariant plain in
-    has_written_of_eq g.W.Write.write_str_gives _ _ _ _ (figure_more c.args.self.now.bound (entries_of c.args.self.now.recording) c.loop-channel.channel _ (omega (arith, c.channel-count-channel-end.ensures)) c.figure-number.ensures)
-    (has_written_append g.W.Write.write_str_gives _ _ _ _ _ so (c.write.ensures.writes so.plain (ap is_ok c.in-ok-write.was)))
+    has_written_of_eq g.W.Write.write_str_gives _ _ _ _ (figure_more c.args.self.now.bound (entries_of c.args.self.now.recording) c.loop-channel.channel _ (omega (arith, c.channel_count-channel-end.ensures)) c.figure-number.ensures)
+    (has_written_append g.W.Write.write_str_gives _ _ _ _ _ so (c.write.ensures.writes so.plain (ap is_ok c.in_ok-write.was)))
 
 pub returns-clause-writes : goal.returns-clause-writes
-returns-clause-writes g c = λ plain ok. has_written_of_eq g.W.Write.write_str_gives _ _ _ _ (figure_all c.args.self.now.bound (entries_of c.args.self.now.recording) c.loop-channel.channel (omega (arith, c.channel-count-channel-end.ensures))) (c.loop-channel.invariant plain)
+returns-clause-writes g c = λ plain ok. has_written_of_eq g.W.Write.write_str_gives _ _ _ _ (figure_all c.args.self.now.bound (entries_of c.args.self.now.recording) c.loop-channel.channel (omega (arith, c.channel_count-channel-end.ensures))) (c.loop-channel.invariant plain)

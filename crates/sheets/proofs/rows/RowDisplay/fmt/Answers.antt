@@ -12,11 +12,11 @@ pub loop-channel-preserved : goal.loop-channel-preserved
 loop-channel-preserved g c =
     λ plain.
     let so = c.loop-channel.invariant plain in
-    has_written_of_eq g.W.Write.write_str_gives _ _ _ _ (cell_more c.args.self.now.recording c.args.self.now.row c.loop-channel.channel _ _ (omega (arith, c.channel-count-channel-end.ensures)) c.gap-gap.ensures c.number.ensures)
-    (has_written_append g.W.Write.write_str_gives _ _ _ _ _ so (c.write.ensures.writes so.plain (ap is_ok c.in-ok-write.was)))
+    has_written_of_eq g.W.Write.write_str_gives _ _ _ _ (cell_more c.args.self.now.recording c.args.self.now.row c.loop-channel.channel _ _ (omega (arith, c.channel_count-channel-end.ensures)) c.gap-gap.ensures c.number.ensures)
+    (has_written_append g.W.Write.write_str_gives _ _ _ _ _ so (c.write.ensures.writes so.plain (ap is_ok c.in_ok-write.was)))
 
 pub returns-clause-writes : goal.returns-clause-writes
 returns-clause-writes g c =
     λ plain ok.
-    let e : c.loop-channel.channel ≡ length (entries_of c.args.self.now.recording) = omega (arith, c.channel-count-channel-end.ensures) in
+    let e : c.loop-channel.channel ≡ length (entries_of c.args.self.now.recording) = omega (arith, c.channel_count-channel-end.ensures) in
     has_written_of_eq g.W.Write.write_str_gives _ _ _ _ (ap (cells (rows_of c.args.self.now.recording) (length (entries_of c.args.self.now.recording)) c.args.self.now.row) e) (c.loop-channel.invariant plain)

@@ -13,10 +13,10 @@ loop-row-preserved g c =
     λ plain.
     let so = c.loop-row.invariant plain in
     has_written_of_eq g.W.Write.write_str_gives _ _ _ _ (row_more (rows_of c.args.self.now.0) (length (entries_of c.args.self.now.0)) c.loop-row.row)
-    (has_written_append g.W.Write.write_str_gives _ _ _ _ _ so (c.write.ensures.writes so.plain (ap is_ok c.in-ok-write.was)))
+    (has_written_append g.W.Write.write_str_gives _ _ _ _ _ so (c.write.ensures.writes so.plain (ap is_ok c.in_ok-write.was)))
 
 pub returns-clause-writes : goal.returns-clause-writes
 returns-clause-writes g c =
     λ plain ok.
-    let e : c.loop-row.row ≡ length (rows_of c.args.self.now.0) / length (entries_of c.args.self.now.0) = omega (arith, c.row-count-row-end.ensures.count) in
+    let e : c.loop-row.row ≡ length (rows_of c.args.self.now.0) / length (entries_of c.args.self.now.0) = omega (arith, c.row_count-row-end.ensures.count) in
     has_written_of_eq g.W.Write.write_str_gives _ _ _ _ (ap (row_lines (rows_of c.args.self.now.0) (length (entries_of c.args.self.now.0))) e) (c.loop-row.invariant plain)
