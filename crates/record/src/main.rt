@@ -6,6 +6,7 @@ use sheets::{BadSheet, RecordError, Sheet};
 use std::alloc::Global;
 use std::env;
 use std::io::{BufRead, BufReader, Write};
+use std::process::ExitCode;
 use tables::refusal_line;
 
 const USAGE: &str = "usage: record < TABLE > RECORDING
@@ -16,19 +17,16 @@ and then, as with bad text, nothing is written and the status is 1.
 ";
 
 /// The report of a line with bad text.
-fn at_line(heap: Global, number: u64, bad: BadSheet) -> anyhow::Error {
-    match format!(in heap; "record: line {number}: {bad}") {
-        Ok(text) => text.into(),
-        Err(e) => e.into(),
-    }
+fn at_line(number: u64, bad: BadSheet) -> anyhow::Error {
+    anyhow!("record: line {number}: {bad}")
 }
 
 /// The report of a sheet that is not recorded.
 fn not_recorded(heap: Global, error: RecordError) -> anyhow::Error {
     match error {
-        RecordError::NoMemory => "record: out of memory".into(),
+        RecordError::NoMemory => anyhow!("record: out of memory"),
         RecordError::Refused(refusal) => match refusal_line(heap, refusal.fault()) {
-            Ok(text) => text.into(),
+            Ok(text) => anyhow!("{text}"),
             Err(e) => e.into(),
         },
     }
@@ -41,12 +39,12 @@ fn record<B: BufRead + Drop>(heap: Global, input: B) -> anyhow::Result<Vec<u8>> 
     for line in input.split(heap, b'\n') {
         sheet = match sheet.line(line?.as_slice()) {
             Ok(sheet) => sheet,
-            Err(bad) => return Err(at_line(heap, number, bad)),
+            Err(bad) => return Err(at_line(number, bad)),
         };
         number = number.saturating_add(1);
     }
     if let Err(bad) = sheet.end() {
-        return Err(at_line(heap, number, bad));
+        return Err(at_line(number, bad));
     }
     match sheet.record(heap) {
         Ok(bytes) => Ok(bytes),
@@ -73,12 +71,14 @@ fn run(rt: &HostRuntime) -> anyhow::Result<()> {
     }
 }
 
-fn main(rt: HostRuntime) -> anyhow::Result<()> {
-    let ended = run(&rt);
-    if let Err(e) = &ended {
-        eprintln!(rt; "{e}")?;
+fn main(rt: HostRuntime) -> ExitCode {
+    match run(&rt) {
+        Ok(()) => ExitCode::SUCCESS,
+        Err(e) => {
+            let _ = eprintln!(rt; "{e}");
+            ExitCode::FAILURE
+        }
     }
-    ended
 }
 
 #[cfg(test)]

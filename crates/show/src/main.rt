@@ -5,6 +5,7 @@ use anyhow::anyhow;
 use sheets::printed;
 use std::env;
 use std::io::Read;
+use std::process::ExitCode;
 
 const USAGE: &str = "usage: show < RECORDING
 Prints the recording as a table of moduli, bounds and rows, or why it is none, as
@@ -29,12 +30,14 @@ fn run(rt: &HostRuntime) -> anyhow::Result<()> {
     }
 }
 
-fn main(rt: HostRuntime) -> anyhow::Result<()> {
-    let ended = run(&rt);
-    if let Err(e) = &ended {
-        eprintln!(rt; "show: {e}")?;
+fn main(rt: HostRuntime) -> ExitCode {
+    match run(&rt) {
+        Ok(()) => ExitCode::SUCCESS,
+        Err(e) => {
+            let _ = eprintln!(rt; "show: {e}");
+            ExitCode::FAILURE
+        }
     }
-    ended
 }
 
 #[cfg(test)]

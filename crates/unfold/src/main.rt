@@ -5,6 +5,7 @@ use anyhow::anyhow;
 use std::alloc::Global;
 use std::env;
 use std::io::{BufRead, BufReader, BufWriter, Write};
+use std::process::ExitCode;
 use tables::{BadText, Desk, Reply, refusal_line, row_line};
 
 const USAGE: &str = "usage: unfold < TABLE
@@ -16,11 +17,8 @@ A refused setting is printed alone. Bad text ends the program with status 1.
 ";
 
 /// The report of a line with bad text.
-fn at_line(heap: Global, number: u64, bad: BadText) -> anyhow::Error {
-    match format!(in heap; "line {number}: {bad}") {
-        Ok(text) => text.into(),
-        Err(e) => e.into(),
-    }
+fn at_line(number: u64, bad: BadText) -> anyhow::Error {
+    anyhow!("line {number}: {bad}")
 }
 
 /// Reads a table line by line, and writes a line for each row, or for a refused setting alone.
@@ -34,7 +32,7 @@ fn read_table<B: BufRead + Drop, W: Write>(
     for line in input.split(heap, b'\n') {
         let reply = match desk.line(line?.as_slice()) {
             Ok(reply) => reply,
-            Err(bad) => return Err(at_line(heap, number, bad)),
+            Err(bad) => return Err(at_line(number, bad)),
         };
         match reply {
             Reply::Nothing => {}
@@ -48,7 +46,7 @@ fn read_table<B: BufRead + Drop, W: Write>(
     }
     match desk.end() {
         Ok(()) => Ok(()),
-        Err(bad) => Err(at_line(heap, number, bad)),
+        Err(bad) => Err(at_line(number, bad)),
     }
 }
 
@@ -74,12 +72,14 @@ fn run(rt: &HostRuntime) -> anyhow::Result<()> {
     }
 }
 
-fn main(rt: HostRuntime) -> anyhow::Result<()> {
-    let ended = run(&rt);
-    if let Err(e) = &ended {
-        eprintln!(rt; "unfold: {e}")?;
+fn main(rt: HostRuntime) -> ExitCode {
+    match run(&rt) {
+        Ok(()) => ExitCode::SUCCESS,
+        Err(e) => {
+            let _ = eprintln!(rt; "unfold: {e}");
+            ExitCode::FAILURE
+        }
     }
-    ended
 }
 
 #[cfg(test)]
