@@ -1,8 +1,7 @@
 -- One channel of a list is read: what stays, what the others are, and what holds of its answer.
-use Rattle.std.proofs.Common.{◌≡◌, ℕ, zero, suc, ◌+◌, ◌<◌, ◌≤◌, Bool, true, false, ◌≢◌, List, [], ◌∷◌, length, Some, None, Ok, Err, Option, Result, sym, refl, ap, ◌∙◌, arith}
-use Rattle.heads.specs.declared.faults.HeadFault.{HeadFault}
+use Rattle.std.proofs.Common.{◌≡◌, ℕ, zero, suc, ◌<◌, ◌≤◌, Bool, true, false, ◌≢◌, List, [], ◌∷◌, length, Some, None, Ok, Option, Result, sym, refl, ap, ◌∙◌, arith}
 use Rattle.heads.specs.declared.plates.Figures.{Figures}
-use Rattle.heads.specs.Answers.{answer_of, first_answer, answered, Reads}
+use Rattle.heads.specs.Answers.{answer_of}
 use Rattle.heads.specs.Channels.{Channel}
 use Rattle.heads.specs.Entries.{Entry, reading, faulty, AllBelow}
 use Rattle.heads.specs.Laws.{Lawful}

@@ -1,7 +1,6 @@
 -- Each refusal of a bank as a record, and a refusal carried to another channel. Assumes nothing.
 use Rattle.std.specs.Prelude.{ℕ}
 use Rattle.records.specs.declared.faults.Fault.{Fault}
-use Rattle.heads.specs.declared.faults.HeadFault.{HeadFault}
 use Rattle.heads.specs.Answers.{head_fault}
 use Rattle.banks.specs.declared.faults.BankFault.{BankFault}
 use Rattle.banks.specs.declared.faults.BankFault.TheVariants.{NoSuchChannel, Refused}

@@ -1,10 +1,10 @@
 -- What the writer's tests say of a note, rows and entries.
-use Rattle.std.proofs.Common.{◌≡◌, ℕ, ◌+◌, ◌*◌, ◌/◌, ◌%◌, ◌^◌, ◌<◌, ◌≤◌, true, false, ◌&&◌, leb, List, length, sym, refl, ap, ◌∙◌, div-add-mod', arith}
+use Rattle.std.proofs.Common.{◌≡◌, ℕ, ◌+◌, ◌*◌, ◌/◌, ◌^◌, ◌<◌, true, false, ◌&&◌, leb, List, length, div-add-mod', arith}
 use Rattle.std.specs.List.{AllByRecursion as All}
 use Rattle.std.proofs.ByRecursion.{All-from_get_or}
 use Rattle.std.proofs.lemmas.Bool.{and_from, and_parts, both_ways, le-leb, leb-true}
 use Rattle.recordings.specs.declared.entries.ChannelEntry.{ChannelEntry}
-use Rattle.recordings.specs.Layout.{encoded, entry_fits}
+use Rattle.recordings.specs.Layout.{entry_fits}
 use Rattle.recordings.proofs.Places.{length_encoded}
 use Rattle.encoding.specs.Refusals.{FitAt, FitsIn, Whole}
 

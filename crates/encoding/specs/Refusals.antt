@@ -1,5 +1,5 @@
 -- Each refusal's number and fields, and when it is the answer. Assumes nothing.
-use Rattle.std.specs.Prelude.{◌≡◌, ℕ, ◌+◌, ◌*◌, ◌%◌, ◌^◌, ◌<◌, ◌≤◌, List, length, slice_index_or}
+use Rattle.std.specs.Prelude.{◌≡◌, ℕ, ◌%◌, ◌^◌, ◌<◌, ◌≤◌, List, length, slice_index_or}
 use Rattle.std.specs.List.{AllByRecursion as All}
 use Rattle.records.specs.declared.faults.Fault.{Fault}
 use Rattle.recordings.specs.declared.entries.ChannelEntry.{ChannelEntry}

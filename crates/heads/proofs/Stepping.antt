@@ -1,5 +1,5 @@
 -- What waits in a table or a track, one step on.
-use Rattle.std.proofs.Common.{◌≡◌, ℕ, suc, ◌+◌, ◌-◌, ◌<◌, ◌≤◌, true, false, List, [], ◌∷◌, map, length, get_or, drop, Some, None, Ok, Err, Option, Result, sym, refl, ap, ◌∙◌, add-one, arith, MatchOption}
+use Rattle.std.proofs.Common.{◌≡◌, ℕ, suc, ◌+◌, ◌-◌, ◌<◌, ◌≤◌, true, List, length, get_or, drop, Some, None, Ok, Err, Option, Result, refl, ap, ◌∙◌, add-one, arith, MatchOption}
 use Rattle.std.proofs.lemmas.List.{drop_all, drop_more}
 use Rattle.heads.specs.declared.faults.HeadFault.{HeadFault}
 use Rattle.heads.specs.declared.faults.HeadFault.TheVariants.{End}

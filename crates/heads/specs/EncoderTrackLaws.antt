@@ -1,11 +1,11 @@
 -- An encoder track keeps the laws of a head. Assumes nothing.
-use Rattle.std.proofs.Common.{arith, mod-lt, sym, lit≤, ltb-true}
-use Rattle.std.specs.Prelude.{◌≡◌, ℕ, zero, suc, ◌+◌, ◌-◌, ◌*◌, ◌%◌, ◌^◌, ◌<◌, ◌≤◌, Bool, true, false, ◌&&◌, List, [], nat_le, nat_lt, refl}
+use Rattle.std.proofs.Common.{arith, mod-lt, lit≤, ltb-true}
+use Rattle.std.specs.Prelude.{◌≡◌, ℕ, zero, suc, ◌+◌, ◌-◌, ◌*◌, ◌^◌, ◌<◌, Bool, true, false, ◌&&◌, nat_le, nat_lt, refl}
 use Rattle.heads.specs.Entries.{AllBelow}
 use Rattle.heads.specs.Figures.{fits}
 use Rattle.heads.specs.Laws.{HeadLaws, Lawful, head_laws}
 use Rattle.heads.specs.PhaseTableLaws.{figures_laws, if_fit_empty, if_fit_below}
-use Rattle.heads.specs.EncoderTracks.{grained, track_reading, track_readings, track_fits, track_told, track_waits}
+use Rattle.heads.specs.EncoderTracks.{track_readings, track_fits, track_told, track_waits}
 
 -- of a test that holds, each part does
 pub both_left : (a b : Bool) → (a && b) ≡ true → a ≡ true

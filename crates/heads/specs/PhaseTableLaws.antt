@@ -1,7 +1,6 @@
 -- A phase table keeps the laws of a head. Assumes nothing.
 use Rattle.std.proofs.Common.{arith, sym, lit≤, ltb-true}
 use Rattle.std.specs.Prelude.{◌≡◌, ℕ, ◌<◌, ◌≤◌, Bool, true, false, cond, List, [], ◌∷◌, map, ◌==◌, nat_lt, refl}
-use Rattle.heads.specs.declared.plates.Figures.{Figures}
 use Rattle.heads.specs.Entries.{Entry, reading, faulty, dark, wild, Below, AllBelow}
 use Rattle.heads.specs.Figures.{fits, figures_of}
 use Rattle.heads.specs.Laws.{PlateLaws, HeadLaws, Lawful, head_laws}

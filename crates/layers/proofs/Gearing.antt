@@ -1,5 +1,5 @@
 -- That a reading behind a gear fits the machine's numbers.
-use Rattle.std.proofs.Common.{◌≡◌, ℕ, ◌+◌, ◌*◌, ◌^◌, ◌<◌, ◌≤◌, Bool, true, false, ◌&&◌, ltb, leb, List, [], ◌∷◌, Ok, Err, Result, sym, refl, ap, ◌∙◌, subst, mul-le-mul_right, arith, leb-true}
+use Rattle.std.proofs.Common.{◌≡◌, ℕ, ◌+◌, ◌*◌, ◌^◌, ◌<◌, ◌≤◌, Bool, true, false, ◌&&◌, ltb, leb, List, [], ◌∷◌, Ok, Err, Result, sym, refl, subst, mul-le-mul_right, arith, leb-true}
 use Rattle.heads.specs.declared.plates.Figures.{Figures}
 use Rattle.heads.specs.declared.faults.HeadFault.{HeadFault}
 use Rattle.heads.specs.Answers.{answer_of, checked}

@@ -1,14 +1,13 @@
 -- A layer stands where it carries what the head below stands at.
-use Rattle.std.proofs.Common.{◌≡◌, ℕ, zero, suc, ◌+◌, ◌*◌, ◌/◌, ◌%◌, ◌<◌, ◌≤◌, Bool, true, false, ◌&&◌, ltb, leb, List, [], ◌∷◌, map, ℤ, pos, negsuc, ◌+ℤ◌, ◌-ℤ◌, ◌*ℤ◌, neg_ℤ, nat_abs, ◌≤ℤ◌, sym, refl, ap, mul-le-mul_right, mul-pos, arith, ltb-true, leb-true}
+use Rattle.std.proofs.Common.{◌≡◌, ℕ, zero, suc, ◌+◌, ◌*◌, ◌/◌, ◌%◌, ◌<◌, ◌≤◌, Bool, true, false, ◌&&◌, ltb, leb, List, [], ◌∷◌, map, ℤ, pos, negsuc, ◌+ℤ◌, ◌-ℤ◌, ◌*ℤ◌, neg_ℤ, nat_abs, ◌≤ℤ◌, refl, ap, mul-le-mul_right, mul-pos, arith, ltb-true, leb-true}
 use native.Mathlib.Nat.{div-add-mod}
 use Rattle.std.specs.List.{AllByRecursion as All}
-use Rattle.residues.specs.Circle.{Allows, Errs}
+use Rattle.residues.specs.Circle.{Allows}
 use Rattle.residues.proofs.Ring.{ring, lin}
 use Rattle.residues.proofs.Round.{to_error, from_error}
 use Rattle.heads.specs.declared.plates.Figures.{Figures}
 use Rattle.heads.specs.Entries.{Entry, reading, faulty}
 use Rattle.heads.specs.Channels.{Channel}
-use Rattle.heads.specs.Figures.{fits}
 use Rattle.heads.specs.PhaseTables.{if_fit}
 use Rattle.heads.specs.EncoderTrackLaws.{both_left, both_right}
 use Rattle.heads.specs.Standing.{Allowing, Carried}

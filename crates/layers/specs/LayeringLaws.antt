@@ -1,9 +1,9 @@
 -- Layers keep the laws of a head. Assumes nothing.
 use Rattle.std.proofs.Common.{arith, mod-lt, mul-lt-mul_of_pos_right, sym, ltb-true, leb-true}
-use Rattle.std.specs.Prelude.{◌≡◌, ℕ, ◌+◌, ◌*◌, ◌%◌, ◌<◌, ◌≤◌, Bool, true, false, ◌&&◌, List, [], ◌∷◌, map, nat_le, refl}
+use Rattle.std.specs.Prelude.{◌≡◌, ℕ, ◌+◌, ◌*◌, ◌<◌, ◌≤◌, Bool, true, false, ◌&&◌, List, [], ◌∷◌, map, nat_le, refl}
 use Rattle.heads.specs.declared.plates.Figures.{Figures}
-use Rattle.heads.specs.Entries.{Entry, reading, faulty, Below, AllBelow}
-use Rattle.heads.specs.Figures.{fits, figures_of}
+use Rattle.heads.specs.Entries.{Entry, reading, faulty, AllBelow}
+use Rattle.heads.specs.Figures.{fits}
 use Rattle.heads.specs.Laws.{PlateLaws, HeadLaws, Lawful, head_laws}
 use Rattle.heads.specs.PhaseTables.{if_fit}
 use Rattle.heads.specs.PhaseTableLaws.{never, figures_laws}

@@ -1,13 +1,10 @@
 -- A line tells what was printed, since no digit is a space or a line feed. Assumes nothing.
-use Rattle.std.proofs.Common.{◌≡◌, ℕ, ◌+◌, ◌/◌, ◌%◌, ◌^◌, ◌<◌, ◌≤◌, List, [], ◌∷◌, ◌++◌, codes, decimal, sym, refl, ap, ◌∙◌, arith}
+use Rattle.std.proofs.Common.{◌≡◌, ℕ, ◌+◌, ◌%◌, ◌^◌, ◌<◌, List, [], ◌∷◌, ◌++◌, codes, decimal, refl, arith}
 use Rattle.std.specs.List.{AllByRecursion as All}
 use Rattle.std.proofs.lemmas.Fmt.{decimal_by_steps, decimal_injective}
 use Rattle.std.proofs.ByRecursion.{All-push}
 use Rattle.std.proofs.lemmas.List.{append_cancel_left}
-use Rattle.records.specs.declared.faults.Fault.{Fault}
-use Rattle.records.specs.declared.fixes.Fix.{Fix}
-use Rattle.lines.specs.Lines.{fix_line, fault_line}
-use Rattle.lines.specs.LineLaws.{FixFits, FaultFits, SameButFigures, TellsFix, TellsFault}
+use Rattle.lines.specs.LineLaws.{TellsFix, TellsFault}
 
 -- lists up to a mark that is below all they hold
 parted : (s : ℕ) (cs bs xs ys : List ℕ) → All (λ d. s < d) cs → All (λ d. s < d) bs → cs ++ s ∷ xs ≡ bs ++ s ∷ ys → (cs ≡ bs) × (xs ≡ ys)

@@ -1,5 +1,5 @@
 -- The order of fixes is total. Assumes nothing.
-use Rattle.std.specs.Prelude.{◌≡◌, Bool, nat_lt}
+use Rattle.std.specs.Prelude.{Bool, nat_lt}
 use Rattle.std.proofs.Common.{arith}
 use Rattle.std.proofs.lemmas.Bool.{ltb-true, ltb-false, le-ltb}
 use Rattle.records.specs.Orders.{Total}

@@ -1,16 +1,15 @@
 -- A layer after some reads is the layer over what is left below.
-use Rattle.std.proofs.Common.{◌≡◌, ℕ, zero, suc, ◌+◌, ◌*◌, ◌/◌, ◌≤◌, Bool, true, false, ◌&&◌, leb, List, [], ◌∷◌, map, length, drop, sym, refl, ap, ◌∙◌, mul-one, arith}
+use Rattle.std.proofs.Common.{◌≡◌, ℕ, zero, suc, ◌+◌, ◌*◌, ◌/◌, ◌≤◌, Bool, true, false, List, [], ◌∷◌, map, length, drop, sym, refl, ap, ◌∙◌, mul-one, arith}
 use Rattle.std.proofs.lemmas.List.{drop-drop, drop-map}
 use Rattle.std.proofs.lemmas.Bool.{and_parts}
-use Rattle.heads.specs.declared.plates.Figures.{Figures}
 use Rattle.heads.specs.Answers.{rest}
-use Rattle.heads.specs.Channels.{Channel, channel_of}
+use Rattle.heads.specs.Channels.{channel_of}
 use Rattle.heads.specs.Entries.{Entry}
 use Rattle.heads.specs.PhaseTables.{if_fit}
 use Rattle.layers.specs.Layering.{turned, zero_proper, zero_turns, gear_proper, layer_fits}
 use Rattle.layers.specs.Bursts.{bursts, burst_proper}
 use Rattle.layers.proofs.Bursting.{burst_rest, odd_some}
-use Rattle.piles.specs.Piles.{Layer, zero_layer, gear_layer, burst_layer, laid, takes, less, LayersAdvance}
+use Rattle.piles.specs.Piles.{zero_layer, gear_layer, burst_layer, LayersAdvance}
 
 -- what waits where something is fit, n entries on
 fit_drop : (b : Bool) (n : ℕ) (v u : List Entry) → (b ≡ true → drop n v ≡ u) → drop n (if_fit b v) ≡ if_fit b u

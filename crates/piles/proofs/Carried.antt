@@ -1,5 +1,5 @@
 -- A pile keeps the laws of a head, and stands where its layers carry what its foot stands at.
-use Rattle.std.proofs.Common.{List, [], ◌∷◌, ℤ, sym, subst}
+use Rattle.std.proofs.Common.{[], ◌∷◌, ℤ, sym, subst}
 use Rattle.heads.specs.Channels.{Channel}
 use Rattle.heads.specs.Laws.{Lawful}
 use Rattle.heads.specs.Standing.{Stands}
@@ -7,7 +7,7 @@ use Rattle.layers.specs.BurstLaws.{burst_lawful}
 use Rattle.layers.specs.LayeringLaws.{zero_lawful, gear_lawful}
 use Rattle.layers.proofs.Standing.{zero_stands, gear_stands}
 use Rattle.layers.proofs.Steady.{burst_stands}
-use Rattle.piles.specs.Piles.{Layer, zero_layer, gear_layer, burst_layer, laid, Carries, pile, Carry, PilesLawful, PilesStand}
+use Rattle.piles.specs.Piles.{Layer, zero_layer, gear_layer, burst_layer, laid, Carries, PilesLawful, PilesStand}
 
 laid_lawful : (l : Layer) (c : Channel) → Lawful c.figures c.waits → Lawful (laid l c).figures (laid l c).waits
 laid_lawful (zero_layer z) c h = zero_lawful c.figures c.waits h.plate h.below z

@@ -1,7 +1,6 @@
 -- A head at any depth in which nothing waits, for the tests of a depth at its limit. Assumes nothing.
-use Rattle.std.specs.Prelude.{◌≡◌, ℕ, ◌≤◌, min, true, false, leb, List, [], refl}
+use Rattle.std.specs.Prelude.{ℕ, min, true, List, [], refl}
 use Rattle.std.proofs.Common.{arith}
-use Rattle.std.proofs.lemmas.Bool.{leb-true}
 use Rattle.heads.specs.declared.plates.Figures.{Figures}
 use Rattle.heads.specs.Entries.{Entry}
 use Rattle.heads.specs.Figures.{figures_of}

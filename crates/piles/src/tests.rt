@@ -2,7 +2,7 @@
 ghost use Rattle.heads.specs.Laws.{head_laws};
 ghost use Rattle.piles.specs.Deep.{deep_laws, deep_told, deep_waits};
 
-use heads::{EncoderTrack, Figures, Head, HeadFault, PhaseTable, Plate};
+use heads::{Figures, Head, HeadFault, PhaseTable, Plate};
 use layers::{Burst, Gear, Zero};
 
 const DARK: u32 = 4294967295;
@@ -71,15 +71,6 @@ fn a_burst_that_is_too_wide_is_spread(rt: HostRuntime) {
             second: 4,
         })
     );
-}
-
-#[test]
-fn a_track_passes_its_modulus(rt: HostRuntime) {
-    let mut track = EncoderTrack::new(40, 37, 5, 3, 3);
-    assert_eq!(rt; track.read(), Ok(36));
-    assert_eq!(rt; track.read(), Ok(0));
-    assert_eq!(rt; track.read(), Ok(6));
-    assert_eq!(rt; track.read(), Err(HeadFault::End));
 }
 
 #[test]

@@ -9,8 +9,8 @@ use Rattle.heads.specs.Answers.{Reads}
 use Rattle.heads.specs.Channels.{Channel, channel_of}
 use Rattle.heads.specs.PhaseTables.{table_told, table_waits}
 use Rattle.banks.specs.declared.faults.BankFault.{BankFault}
-use Rattle.banks.specs.declared.faults.BankFault.TheVariants.{NoSuchChannel, Refused}
-use Rattle.banks.specs.Banks.{channel_at, channel_figures, channel_answer, channel_rest, answered_by, told_by, of_channel, read_on, BankReads}
+use Rattle.banks.specs.declared.faults.BankFault.TheVariants.{NoSuchChannel}
+use Rattle.banks.specs.Banks.{channel_at, channel_figures, channel_rest, answered_by, told_by, of_channel, read_on, BankReads}
 use Rattle.recordings.specs.declared.entries.ChannelEntry.{ChannelEntry}
 use Rattle.recordings.specs.declared.recording.Recording.{Recording}
 use Rattle.recordings.specs.declared.refusals.CheckRefusal.{CheckRefusal}

@@ -1,12 +1,12 @@
 -- Rows, columns and entries by their numbers.
-use Rattle.std.proofs.Common.{◌≡◌, ℕ, zero, suc, ◌+◌, ◌-◌, ◌*◌, ◌/◌, ◌^◌, ◌<◌, ◌≤◌, Bool, true, false, cond, ltb, List, [], ◌∷◌, length, get_or, Some, None, Option, sym, refl, ap, ◌∙◌, mul-le-mul_right, add-mul, zero-add, div-mul-le_self, arith}
+use Rattle.std.proofs.Common.{◌≡◌, ℕ, zero, suc, ◌+◌, ◌*◌, ◌/◌, ◌<◌, ◌≤◌, true, cond, ltb, List, length, get_or, Some, None, sym, refl, ap, ◌∙◌, mul-le-mul_right, add-mul, zero-add, div-mul-le_self, arith}
 use Rattle.std.specs.List.{slice_get}
 use Rattle.std.proofs.lemmas.Option.{slice_get-get_or, slice_get_past}
 use Rattle.std.proofs.lemmas.Bool.{le-ltb, lt-ltb}
 use Rattle.recordings.specs.declared.entries.ChannelEntry.{ChannelEntry}
 use Rattle.recordings.specs.declared.recording.Recording.{Recording}
 use Rattle.recordings.specs.Numbers.{number_from, numbers_in}
-use Rattle.recordings.specs.Contents.{entry_from, entries_in, column_from, column, column_of, entries_of, rows_of, number_told}
+use Rattle.recordings.specs.Contents.{entry_from, entries_in, column_from, column_of, entries_of, rows_of, number_told}
 use Rattle.recordings.proofs.Words.{length_numbers, number_at}
 use Rattle.recordings.proofs.Pairs.{length_entries, entry_of_numbers}
 

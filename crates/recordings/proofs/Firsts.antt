@@ -1,9 +1,8 @@
 -- No bytes have two first checks that fail.
-use Rattle.std.proofs.Common.{◌≡◌, ℕ, ◌<◌, ◌⊎◌, List, refl, ap, inl, inr, ⊎_elim, arith}
+use Rattle.std.proofs.Common.{◌≡◌, ℕ, ◌<◌, List, refl, ap, ⊎_elim, arith}
 use Rattle.std.proofs.lemmas.Bool.{cases_order}
-use Rattle.recordings.specs.declared.refusals.CheckRefusal.{CheckRefusal}
 use Rattle.recordings.specs.declared.refusals.CheckRefusal.TheVariants.{TooShort, Edition, Channels, Places, UnfitEntry}
-use Rattle.recordings.specs.Refusals.{place_in, channel_count_in, UnfitFirst, CheckRefused}
+use Rattle.recordings.specs.Refusals.{place_in, channel_count_in, UnfitFirst}
 use Rattle.recordings.specs.Laws.{OneRefusal}
 
 lowest : (bs : List ℕ) (k l : ℕ) → UnfitFirst bs (place_in bs) (channel_count_in bs) k → UnfitFirst bs (place_in bs) (channel_count_in bs) l → UnfitEntry k ≡ UnfitEntry l

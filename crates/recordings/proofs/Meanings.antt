@@ -1,18 +1,16 @@
 -- The laws of recordings.
-use Rattle.std.proofs.Common.{◌≡◌, ℕ, ◌+◌, ◌-◌, ◌*◌, ◌/◌, ◌^◌, ◌<◌, ◌≤◌, Bool, true, List, [], ◌∷◌, ◌++◌, length, get_or, take, drop, Ok, Err, Result, sym, refl, ap, ◌∙◌, arith, length-append}
-use Rattle.std.specs.List.{flat_map, AllByRecursion as All}
+use Rattle.std.proofs.Common.{◌≡◌, ℕ, ◌+◌, ◌*◌, ◌/◌, ◌<◌, List, ◌++◌, length, get_or, take, drop, Ok, Err, sym, refl, ap, ◌∙◌, arith}
+use Rattle.std.specs.List.{flat_map}
 use Rattle.std.proofs.lemmas.List.{take_at, drop_at}
 use Rattle.std.proofs.ByRecursion.{All-get_or}
 use Rattle.heads.specs.Figures.{fits}
 use Rattle.recordings.specs.declared.entries.ChannelEntry.{ChannelEntry}
-use Rattle.recordings.specs.declared.recording.Recording.{Recording}
-use Rattle.recordings.specs.declared.refusals.CheckRefusal.{CheckRefusal}
 use Rattle.recordings.specs.declared.refusals.CheckRefusal.TheVariants.{TooShort, Edition, Channels, Places, UnfitEntry}
-use Rattle.recordings.specs.Numbers.{bytes_of, number_from, numbers_in}
-use Rattle.recordings.specs.Layout.{pair_of, entry_fits, place_of, ending, encoded, Recordable, Records}
+use Rattle.recordings.specs.Numbers.{number_from, numbers_in}
+use Rattle.recordings.specs.Layout.{pair_of, entry_fits, place_of, Records}
 use Rattle.recordings.specs.Contents.{note_of, rows_of, entries_of, entries_in}
-use Rattle.recordings.specs.Refusals.{place_in, row_count_in, channel_count_in, edition_in, PlacesAgree, FitsFrom, CheckRefused, Checked}
-use Rattle.recordings.specs.Laws.{RefusedRecordsNothing, Same, RecordsOne, Tells, IsReadBack}
+use Rattle.recordings.specs.Refusals.{place_in, row_count_in, channel_count_in, PlacesAgree, FitsFrom}
+use Rattle.recordings.specs.Laws.{RefusedRecordsNothing, RecordsOne, IsReadBack}
 use Rattle.recordings.proofs.Words.{numbers_back}
 use Rattle.recordings.proofs.Pairs.{entries_back, length_pairs}
 use Rattle.recordings.proofs.Places.{all_words, numbers_after, Says, says}

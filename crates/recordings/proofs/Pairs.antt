@@ -1,10 +1,9 @@
 -- Entries and their numbers, there and back.
-use Rattle.std.proofs.Common.{◌≡◌, ℕ, zero, suc, ◌+◌, ◌-◌, ◌*◌, ◌/◌, ◌<◌, List, [], ◌∷◌, ◌++◌, length, get_or, Some, None, Option, refl, ap, ◌∙◌, arith}
-use Rattle.std.specs.List.{flat_map, AllByRecursion as All, slice_get}
+use Rattle.std.proofs.Common.{◌≡◌, ℕ, zero, suc, ◌+◌, ◌-◌, ◌*◌, ◌/◌, ◌<◌, List, [], ◌∷◌, length, get_or, refl, ap, arith}
+use Rattle.std.specs.List.{flat_map}
 use Rattle.recordings.specs.declared.entries.ChannelEntry.{ChannelEntry}
-use Rattle.recordings.specs.Layout.{pair_of, entry_fits}
+use Rattle.recordings.specs.Layout.{pair_of}
 use Rattle.recordings.specs.Contents.{entries_in}
-use Rattle.recordings.proofs.Words.{Word}
 
 pub entries_back : (es : List ChannelEntry) → entries_in (flat_map pair_of es) ≡ es
 entries_back [] = refl

@@ -1,13 +1,13 @@
 -- Bytes that pass every check are a recording.
-use Rattle.std.proofs.Common.{◌≡◌, ℕ, ◌+◌, ◌-◌, ◌*◌, ◌/◌, ◌^◌, ◌<◌, ◌≤◌, Bool, true, false, ◌&&◌, eqb, leb, List, [], ◌∷◌, ◌++◌, length, get_or, take, drop, sym, refl, ap, ◌∙◌, arith, length-append}
+use Rattle.std.proofs.Common.{◌≡◌, ℕ, ◌+◌, ◌-◌, ◌*◌, ◌/◌, ◌<◌, ◌≤◌, true, false, ◌&&◌, eqb, leb, List, [], ◌∷◌, ◌++◌, length, get_or, take, drop, sym, ap, ◌∙◌, arith}
 use native.Mathlib.Nat.{div-eq_of_eq-mul_left}
 use Rattle.std.specs.List.{flat_map, AllByRecursion as All}
-use Rattle.std.proofs.lemmas.List.{append-nil, drop_all, drop-drop, get_or-take, get_or-drop, length-drop, length-take-le, take-append-drop}
+use Rattle.std.proofs.lemmas.List.{drop_all, drop-drop, get_or-take, get_or-drop, length-drop, length-take-le, take-append-drop}
 use Rattle.std.proofs.ByRecursion.{All-drop, All-from_get_or, All-take}
 use Rattle.std.proofs.lemmas.Bool.{and_from, and_parts, both_ways, eq-eqb, eqb-true, le-leb, leb-true}
 use Rattle.recordings.specs.declared.entries.ChannelEntry.{ChannelEntry}
-use Rattle.recordings.specs.Numbers.{bytes_of, number_of, number_from, numbers_in}
-use Rattle.recordings.specs.Layout.{pair_of, entry_fits, place_of, ending, encoded, Recordable, Records}
+use Rattle.recordings.specs.Numbers.{bytes_of, number_from, numbers_in}
+use Rattle.recordings.specs.Layout.{pair_of, entry_fits, place_of, ending, encoded, Records}
 use Rattle.recordings.specs.Contents.{entry_from, entries_in}
 use Rattle.recordings.specs.Refusals.{place_in, row_count_in, channel_count_in, edition_in, Counted, PlacesAgree, FitsFrom, UnfitFirst}
 use Rattle.recordings.proofs.Words.{Byte, Word, bytes_back, joined_append, length_numbers, next_number, number_at, number_word, numbers_words}

@@ -1,14 +1,13 @@
 -- What stands at each place of a recording's bytes.
-use Rattle.std.proofs.Common.{◌≡◌, ℕ, ◌+◌, ◌-◌, ◌*◌, ◌/◌, ◌^◌, ◌<◌, ◌≤◌, Bool, true, ◌&&◌, ltb, leb, List, [], ◌∷◌, ◌++◌, length, get_or, sym, refl, ap, ◌∙◌, div-le_self, arith, length-append}
+use Rattle.std.proofs.Common.{◌≡◌, ℕ, ◌+◌, ◌*◌, ◌/◌, ◌^◌, ◌<◌, ◌≤◌, true, ltb, leb, List, [], ◌∷◌, ◌++◌, length, get_or, sym, ap, ◌∙◌, div-le_self, arith, length-append}
 use Rattle.std.specs.List.{flat_map, AllByRecursion as All}
 use Rattle.std.proofs.lemmas.List.{get_or-append-add, get_or_append_left}
-use Rattle.std.proofs.ByRecursion.{All-append, All-get_or}
+use Rattle.std.proofs.ByRecursion.{All-append}
 use Rattle.std.proofs.lemmas.Bool.{and_parts, leb-true, ltb-true}
 use Rattle.heads.specs.Figures.{fits}
 use Rattle.recordings.specs.declared.entries.ChannelEntry.{ChannelEntry}
-use Rattle.recordings.specs.Numbers.{bytes_of, number_from, numbers_in}
-use Rattle.recordings.specs.Layout.{pair_of, entry_fits, place_of, ending, encoded, Recordable, Records}
-use Rattle.recordings.specs.Contents.{entries_in}
+use Rattle.recordings.specs.Numbers.{bytes_of, number_from}
+use Rattle.recordings.specs.Layout.{pair_of, entry_fits, place_of, ending, encoded, Recordable}
 use Rattle.recordings.specs.Refusals.{place_in, row_count_in, channel_count_in, edition_in}
 use Rattle.recordings.proofs.Words.{Word, numbers_back, number_at, number_after, length_bytes}
 use Rattle.recordings.proofs.Pairs.{entries_back, length_pairs, entry_of_numbers}

@@ -1,5 +1,5 @@
 -- What a recording tells: its note, rows and entries, and the column of a channel. Assumes nothing.
-use Rattle.std.specs.Prelude.{ℕ, zero, suc, ◌+◌, ◌*◌, ◌/◌, cond, List, [], ◌∷◌, length, Some, None, Option, nat_lt, slice_index}
+use Rattle.std.specs.Prelude.{ℕ, zero, suc, ◌+◌, ◌*◌, ◌/◌, cond, List, [], ◌∷◌, length, None, Option, nat_lt, slice_index}
 use Rattle.std.specs.List.{slice_get}
 use Rattle.recordings.specs.declared.entries.ChannelEntry.{ChannelEntry}
 use Rattle.recordings.specs.declared.recording.Recording.{Recording}

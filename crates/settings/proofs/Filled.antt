@@ -1,8 +1,8 @@
 -- The table of inverses as it is filled, one entry after another.
-use Rattle.std.proofs.Common.{◌≡◌, ℕ, suc, ◌+◌, ◌<◌, ◌≤◌, ◌≢◌, ◌⊎◌, List, [], length, get_or, set, sym, refl, ap, ◌∙◌, subst, inl, inr, arith, length-set, get_or-set_other, get_or-set_same}
+use Rattle.std.proofs.Common.{◌≡◌, ℕ, suc, ◌+◌, ◌<◌, ◌≤◌, ◌≢◌, ◌⊎◌, List, [], length, get_or, set, sym, ap, ◌∙◌, subst, inl, inr, arith, length-set, get_or-set_other, get_or-set_same}
 use Rattle.std.proofs.lemmas.Bool.{cases_eq}
-use Rattle.residues.specs.Divisors.{Coprime, Greatest}
-use Rattle.settings.specs.Kept.{inverse_at, InversesBelow, InversesInvert}
+use Rattle.residues.specs.Divisors.{Greatest}
+use Rattle.settings.specs.Kept.{inverse_at}
 use Rattle.settings.specs.Refusals.{SharesFirst}
 use Rattle.settings.specs.Tables.{InversesMade, RowsOfEight}
 use Rattle.settings.specs.Told.{Inverse}

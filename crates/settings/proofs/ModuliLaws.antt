@@ -1,5 +1,5 @@
 -- Moduli that are refused have no setting, and are refused for one reason.
-use Rattle.std.proofs.Common.{◌≡◌, ℕ, ◌*◌, ◌^◌, ◌<◌, List, [], ◌∷◌, length, get_or, sym, refl, ap, ◌∙◌, subst, inl, inr, arith, ext_get_or}
+use Rattle.std.proofs.Common.{◌≡◌, ℕ, ◌^◌, ◌<◌, List, [], ◌∷◌, length, get_or, sym, refl, ◌∙◌, subst, inl, inr, arith, ext_get_or}
 use native.Mathlib.Nat.{dvd_antisymm, eq_of_mul-eq-mul_left}
 use Rattle.settings.specs.declared.refusals.SettingRefusal.{SettingRefusal}
 use Rattle.settings.specs.declared.refusals.SettingRefusal.TheVariants.{Count, Unit, Factor, Modulus, SharedDivisor, Range}

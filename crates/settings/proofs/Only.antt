@@ -1,5 +1,5 @@
 -- A position below the range is the only one with its remainders.
-use Rattle.std.proofs.Common.{◌≡◌, ℕ, zero, suc, ◌+◌, ◌-◌, ◌*◌, ◌/◌, ◌%◌, ◌<◌, ◌≤◌, List, length, get_or, ℤ, pos, negsuc, ◌*ℤ◌, sym, refl, ap, ◌∙◌, subst, mul-le-mul_left, mul-zero, arith}
+use Rattle.std.proofs.Common.{◌≡◌, ℕ, zero, suc, ◌-◌, ◌*◌, ◌/◌, ◌%◌, ◌<◌, ◌≤◌, List, length, get_or, pos, negsuc, sym, ap, ◌∙◌, subst, mul-le-mul_left, mul-zero, arith}
 use Prim.Native.Nat.{◌∣◌}
 use native.Mathlib.Nat.{div-add-mod, dvd-sub, dvd-mul_right, dvd_trans, dvd_of_mul-dvd-mul_left, mul-div_cancel'}
 use Rattle.residues.specs.Products.{product, PairwiseCoprime}

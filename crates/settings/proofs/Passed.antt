@@ -1,5 +1,5 @@
 -- That a setting passed every check, from what its type says.
-use Rattle.std.proofs.Common.{◌≡◌, ℕ, ◌*◌, ◌%◌, ◌<◌, ◌≤◌, List, [], length, get_or, take, sym, refl, ap, ◌∙◌, subst, arith, length-take, get_or-take}
+use Rattle.std.proofs.Common.{◌≡◌, ℕ, ◌*◌, ◌%◌, ◌<◌, ◌≤◌, List, [], length, get_or, take, sym, ap, ◌∙◌, subst, arith, length-take, get_or-take}
 use Prim.Native.Nat.{◌∣◌}
 use native.Mathlib.Nat.{dvd-mod_iff, dvd-mul_right_of_dvd, eq-one_of_dvd-one}
 use Rattle.residues.specs.Divisors.{Coprime}

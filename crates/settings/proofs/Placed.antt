@@ -1,5 +1,5 @@
 -- Factors at the front of the places that a setting keeps them in.
-use Rattle.std.proofs.Common.{◌≡◌, ℕ, ◌*◌, ◌<◌, ◌≤◌, List, [], length, get_or, take, sym, refl, ap, ◌∙◌, subst, arith, get_or-take}
+use Rattle.std.proofs.Common.{◌≡◌, ℕ, ◌*◌, ◌<◌, List, length, get_or, take, sym, ap, ◌∙◌, subst, arith, get_or-take}
 use Rattle.residues.specs.Products.{PairwiseCoprime}
 use Rattle.settings.specs.Kept.{inverse_at, InversesBelow, InversesInvert, Moduli}
 use Rattle.settings.specs.Tables.{InversesMade}

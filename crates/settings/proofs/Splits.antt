@@ -1,13 +1,12 @@
 -- A setting from moduli, by the unit and the factors that they have.
-use Rattle.std.proofs.Common.{◌≡◌, ℕ, ◌*◌, ◌/◌, ◌^◌, ◌<◌, ◌≤◌, List, length, get_or, take, Ok, Err, Result, sym, refl, ap, ◌∙◌, subst, arith, length-take-le, get_or-take}
-use Prim.Native.Nat.{◌∣◌}
+use Rattle.std.proofs.Common.{◌≡◌, ℕ, ◌*◌, ◌/◌, ◌^◌, ◌<◌, ◌≤◌, List, length, get_or, take, Ok, Err, Result, sym, ap, ◌∙◌, subst, arith, length-take-le, get_or-take}
 use native.Mathlib.Nat.{mul-div_cancel', pos_of_dvd_of_pos}
 use Rattle.settings.specs.declared.kept.Setting.{Setting}
 use Rattle.settings.specs.declared.refusals.SettingRefusal.{SettingRefusal}
 use Rattle.settings.specs.declared.refusals.SettingRefusal.TheVariants.{Count, Unit, Factor, Modulus, SharedDivisor, Range}
 use Rattle.settings.specs.Settings.{Accepted, Counted, EachFromTo, FromTo, GreatestOf, Split}
 use Rattle.settings.specs.Refusals.{Refuses, ModuliRefused}
-use Rattle.settings.specs.Told.{Makes, MakesFromModuli, unit_of, factors_of}
+use Rattle.settings.specs.Told.{Makes, MakesFromModuli, factors_of}
 
 pub unit_pos : (ms : List ℕ) (u : ℕ) → Counted ms → EachFromTo 1 (2 ^ 31) ms → GreatestOf ms u → 0 < u
 unit_pos ms u counted fit is = pos_of_dvd_of_pos (is.common 0 counted.0) (fit 0 counted.0).0

@@ -1,8 +1,8 @@
 -- Each refusal's number and fields, and when it is the answer. Assumes nothing.
-use Rattle.std.specs.Prelude.{◌≡◌, ℕ, suc, ◌*◌, ◌^◌, ◌<◌, ◌≤◌, List, length, take, slice_index}
+use Rattle.std.specs.Prelude.{◌≡◌, ℕ, suc, ◌^◌, ◌<◌, ◌≤◌, List, length, take, slice_index}
 use Rattle.records.specs.declared.faults.Fault.{Fault}
 use Rattle.residues.specs.Divisors.{Coprime, Greatest}
-use Rattle.residues.specs.Products.{product, PairwiseCoprime}
+use Rattle.residues.specs.Products.{PairwiseCoprime}
 use Rattle.settings.specs.declared.refusals.SettingRefusal.{SettingRefusal}
 use Rattle.settings.specs.declared.refusals.SettingRefusal.TheVariants.{Count, Unit, Factor, Modulus, SharedDivisor, Range}
 use Rattle.settings.specs.declared.refusals.RemainderRefusal.{RemainderRefusal}

@@ -1,5 +1,5 @@
 -- The text that a recording, or a refusal, is printed as.
-use Rattle.std.proofs.Common.{◌≡◌, ℕ, ◌⊎◌, List, ◌++◌, Err, codes, ap, ◌∙◌, subst, inl}
+use Rattle.std.proofs.Common.{◌≡◌, ℕ, List, ◌++◌, Err, codes, ap, ◌∙◌, subst, inl}
 use Rattle.recordings.specs.declared.refusals.CheckRefusal.{CheckRefusal}
 use Rattle.recordings.specs.Refusals.{CheckRefused, check_fault}
 use Rattle.tables.specs.Answers.{refusal_line}

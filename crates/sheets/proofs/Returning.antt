@@ -1,5 +1,5 @@
 -- The heading lines that are printed are read back.
-use Rattle.std.proofs.Common.{◌≡◌, ℕ, Bool, true, false, List, [], ◌∷◌, ◌++◌, Ok, codes, decimal, sym, refl, ap, subst}
+use Rattle.std.proofs.Common.{◌≡◌, Bool, true, false, List, [], ◌∷◌, ◌++◌, Ok, codes, decimal, refl, ap, subst}
 use Rattle.recordings.specs.declared.entries.ChannelEntry.{ChannelEntry}
 use Rattle.tables.specs.declared.parts.Part.TheVariants.{Moduli, Bounds}
 use Rattle.tables.specs.Lines.{part_of}

@@ -1,14 +1,13 @@
 -- A table that is written part by part.
-use Rattle.std.proofs.Common.{◌≡◌, ℕ, zero, suc, ◌+◌, ◌<◌, ◌≤◌, Bool, true, false, cond, List, [], ◌∷◌, ◌++◌, length, get_or, take, Some, None, codes, decimal, Option, unwrap_or, sym, refl, ap, ◌∙◌, subst, arith}
+use Rattle.std.proofs.Common.{◌≡◌, ℕ, suc, ◌+◌, ◌<◌, ◌≤◌, Bool, cond, List, [], ◌∷◌, ◌++◌, length, get_or, take, None, codes, decimal, Option, unwrap_or, sym, ap, ◌∙◌, arith}
 use Rattle.std.specs.Option.{option_map}
-use Rattle.std.specs.List.{AllByRecursion as All, slice_get}
-use Rattle.std.proofs.ByRecursion.{All-more, All-get_or}
+use Rattle.std.specs.List.{slice_get}
 use Rattle.std.proofs.lemmas.List.{flat_map_more, take_all, take_more}
 use Rattle.std.proofs.lemmas.Option.{slice_get-get_or}
 use Rattle.std.proofs.lemmas.Bool.{lt-ltb}
 use Rattle.recordings.specs.declared.entries.ChannelEntry.{ChannelEntry}
 use Rattle.recordings.specs.declared.recording.Recording.{Recording}
-use Rattle.recordings.specs.Contents.{column, column_of, entries_of, number_told, rows_of}
+use Rattle.recordings.specs.Contents.{column_of, entries_of, number_told, rows_of}
 use Rattle.sheets.specs.Rows.{cells, figure_at, figure_of, figure_words, gap_of, row_lines, word_of}
 
 abbrev none : ChannelEntry

@@ -7,7 +7,7 @@ use Rattle.recordings.specs.Layout.{encoded}
 use Rattle.recordings.proofs.Places.{length_encoded}
 use Rattle.encoding.specs.declared.refusals.WriteRefusal.{WriteRefusal}
 use Rattle.encoding.specs.declared.refusals.WriteRefusal.TheVariants.{Channels, Rows, UnfitEntry, Room}
-use Rattle.encoding.specs.Refusals.{FitsIn, WriteRefused}
+use Rattle.encoding.specs.Refusals.{WriteRefused}
 use Rattle.encoding.specs.Writing.{Writes}
 use Rattle.sheets.specs.Making.{Encodes}
 

@@ -1,5 +1,5 @@
 -- The text that bytes are printed as: a table, or a refusal's line. Assumes nothing.
-use Rattle.std.specs.Prelude.{◌≡◌, ℕ, ◌<◌, Bool, true, not, ◌&&◌, ◌⊎◌, List, [], ◌++◌, length, Ok, Err, codes, IsUtf8, Result, ◌==◌, nat_le}
+use Rattle.std.specs.Prelude.{◌≡◌, ℕ, ◌<◌, Bool, true, not, ◌&&◌, ◌⊎◌, List, ◌++◌, length, Ok, Err, codes, IsUtf8, Result, ◌==◌, nat_le}
 use Rattle.std.specs.List.{AllByRecursion as All}
 use Rattle.recordings.specs.declared.recording.Recording.{Recording}
 use Rattle.recordings.specs.declared.refusals.CheckRefusal.{CheckRefusal}

@@ -1,5 +1,5 @@
 -- What is written is read back. Assumes nothing.
-use Rattle.std.proofs.Common.{◌≡◌, ℕ, ◌+◌, ◌^◌, ◌<◌, Bool, true, false, List, [], ◌∷◌, ◌++◌, map, length, get_or, Ok, Err, codes, decimal, Result, sym, refl, ap, ◌∙◌, subst, append-nil, arith, ne_eqb}
+use Rattle.std.proofs.Common.{◌≡◌, ℕ, ◌+◌, ◌^◌, ◌<◌, Bool, true, false, List, [], ◌∷◌, ◌++◌, map, length, Ok, codes, decimal, sym, refl, ap, ◌∙◌, subst, append-nil, arith, ne_eqb}
 use Rattle.std.proofs.lemmas.Fmt.{decimal_nonempty, digits_decimal}
 use Rattle.std.proofs.ByRecursion.{All-from_get_or}
 use Rattle.std.proofs.lemmas.Str.Parse.{digit_at, numerals_by_value, tells_digits}
@@ -7,7 +7,6 @@ use Rattle.std.specs.Str.Parse.{AllDigits}
 use Rattle.std.specs.Int.{IsInRange}
 use Rattle.std.specs.List.{AllByRecursion as All}
 use Rattle.std.specs.Str.{bytes_eq}
-use Rattle.tables.specs.declared.errors.BadText.{BadText}
 use Rattle.tables.specs.declared.headings.Heading.{Heading}
 use Rattle.tables.specs.declared.parts.Part.{Part}
 use Rattle.tables.specs.declared.parts.Part.TheVariants.{Moduli, Bounds, Row}
@@ -15,7 +14,7 @@ use Rattle.tables.proofs.Equal.{by_none}
 use Rattle.tables.proofs.Lines.{no_dash}
 use Rattle.tables.proofs.Numbers.{at_decimal}
 use Rattle.tables.proofs.Spells.{words_law}
-use Rattle.tables.specs.Lines.{part_of_word, part_of_words, part_of}
+use Rattle.tables.specs.Lines.{part_of_words, part_of}
 use Rattle.tables.specs.Numbers.{ahead, number_at, numbers_from}
 use Rattle.tables.specs.Spelling.{spaced, Small, ReadsBack}
 use Rattle.tables.specs.Tables.{allowed, and_then, numbers_of, line_in}

@@ -1,6 +1,6 @@
 -- The first word of a text. Assumes nothing.
-use Rattle.std.proofs.Common.{◌≡◌, ℕ, zero, suc, ◌-◌, ◌<◌, ◌≤◌, Bool, true, false, cond, List, [], ◌∷◌, ◌++◌, length, get_or, take, drop, sym, refl, ap, ◌∙◌, add-zero, arith, length-drop, get_or-drop}
-use Rattle.tables.specs.Words.{is_space, lengthened, opened, words}
+use Rattle.std.proofs.Common.{◌≡◌, ℕ, zero, suc, ◌-◌, ◌<◌, ◌≤◌, Bool, true, false, List, [], ◌∷◌, length, get_or, take, drop, sym, refl, ap, ◌∙◌, add-zero, arith, length-drop, get_or-drop}
+use Rattle.tables.specs.Words.{is_space, words}
 
 pub past_spaces : (n : ℕ) (bs : List ℕ) → n ≤ length bs → ((k : ℕ) → k < n → is_space (get_or bs k 0) ≡ true) → words bs ≡ words (drop n bs)
 past_spaces zero bs l h = refl

@@ -1,5 +1,5 @@
 -- Digit by digit to the number of units that agrees with every channel.
-use Rattle.std.proofs.Common.{◌≡◌, ℕ, zero, suc, ◌+◌, ◌-◌, ◌*◌, ◌%◌, ◌^◌, ◌<◌, ◌≤◌, List, [], ◌∷◌, length, get_or, take, set, ℤ, pos, ◌+ℤ◌, ◌-ℤ◌, ◌*ℤ◌, sym, refl, ap, ◌∙◌, subst, mul-le-mul_left, add-one, arith, length-set, length-take, get_or-take, get_or-set_same, below_more}
+use Rattle.std.proofs.Common.{◌≡◌, ℕ, suc, ◌+◌, ◌*◌, ◌%◌, ◌^◌, ◌<◌, ◌≤◌, List, length, get_or, take, set, ℤ, pos, ◌+ℤ◌, ◌-ℤ◌, sym, refl, ap, ◌∙◌, subst, mul-le-mul_left, add-one, arith, length-set, length-take, get_or-take, get_or-set_same, below_more}
 use Rattle.std.proofs.lemmas.List.{take-set, take_all}
 use Rattle.residues.specs.Circle.{◌modulo◌}
 use Rattle.residues.specs.Products.{product}

@@ -1,9 +1,8 @@
 -- From the code's numbers to what is promised of an unfolding.
-use Rattle.std.proofs.Common.{◌≡◌, ℕ, zero, suc, ◌+◌, ◌-◌, ◌*◌, ◌^◌, ◌<◌, ◌≤◌, List, map, length, get_or, take, ℤ, pos, negsuc, ◌+ℤ◌, ◌-ℤ◌, ◌*ℤ◌, neg_ℤ, ◌≤ℤ◌, ◌<ℤ◌, sym, refl, ap, ◌∙◌, subst, mul-le-mul_left, arith, length-take, get_or-take}
+use Rattle.std.proofs.Common.{◌≡◌, ℕ, zero, suc, ◌*◌, ◌^◌, ◌<◌, ◌≤◌, List, length, get_or, take, ℤ, pos, ◌+ℤ◌, ◌-ℤ◌, ◌*ℤ◌, neg_ℤ, ◌≤ℤ◌, ◌<ℤ◌, sym, refl, ap, ◌∙◌, subst, arith, length-take, get_or-take}
 use Rattle.std.proofs.lemmas.List.FromFn.{fill_by_all}
 use Rattle.std.specs.Int.{int_div_euclid}
 use Rattle.residues.specs.Circle.{◌modulo◌}
-use Rattle.residues.proofs.Ring.{ring, lin}
 use Rattle.settings.specs.Settings.{Accepted, modulus_at, range_of}
 use Rattle.unfolding.specs.declared.kept.Folding.{Folding}
 use Rattle.unfolding.specs.declared.kept.Unfolding.{Unfolding}
@@ -12,7 +11,7 @@ use Rattle.unfolding.specs.declared.refusals.UnfoldRefusal.TheVariants.{Readings
 use Rattle.unfolding.specs.Told.{quotients_of, folds_of, unfolded_of}
 use Rattle.unfolding.specs.Channels.{by_channel, total, GreatestAt, LeastAt, Moderate}
 use Rattle.unfolding.specs.Ends.{begins_at, ends_at, Crossed}
-use Rattle.unfolding.specs.Folds.{Turns, fold_at, unfolded_at, quotient_at, FoldsWell}
+use Rattle.unfolding.specs.Folds.{fold_at, unfolded_at, quotient_at, FoldsWell}
 use Rattle.unfolding.specs.Folded.{Folded}
 use Rattle.unfolding.specs.Brackets.{Allowed, Exact, MeanNear, low_at, high_at, rounded_mean}
 use Rattle.unfolding.specs.Refusals.{AllFine, UnfoldRefused}

@@ -1,8 +1,8 @@
 -- The rounded mean of numbers that all lie near one.
-use Rattle.std.proofs.Common.{◌≡◌, ℕ, zero, suc, ◌+◌, ◌-◌, ◌*◌, ◌^◌, ◌<◌, ◌≤◌, List, length, get_or, ℤ, pos, negsuc, ◌+ℤ◌, ◌-ℤ◌, ◌*ℤ◌, neg_ℤ, ◌≤ℤ◌, ◌<ℤ◌, sym, refl, ap, ◌∙◌, subst, arith, w64, SFits}
+use Rattle.std.proofs.Common.{ℕ, zero, suc, ◌*◌, ◌^◌, ◌<◌, ◌≤◌, List, length, get_or, ℤ, pos, ◌+ℤ◌, ◌*ℤ◌, neg_ℤ, ◌≤ℤ◌, arith, w64, SFits}
 use borrow.Author.Differences.{ints}
 use Rattle.std.specs.Int.{int_div_euclid}
-use Rattle.residues.proofs.Ring.{ring, lin}
+use Rattle.residues.proofs.Ring.{lin}
 use Rattle.residues.proofs.Floor.{floor_low, floor_high, at_most}
 use Rattle.unfolding.specs.Channels.{total, Moderate}
 use Rattle.unfolding.proofs.Fitting.{FromTo}

@@ -1,16 +1,15 @@
 -- The bracket from lo to hi is exact, and the mean is near it.
-use Rattle.std.proofs.Common.{◌≡◌, ℕ, zero, suc, ◌+◌, ◌-◌, ◌*◌, ◌<◌, ◌≤◌, ◌↔◌, List, length, get_or, ℤ, pos, negsuc, ◌+ℤ◌, ◌-ℤ◌, ◌*ℤ◌, neg_ℤ, ◌≤ℤ◌, ◌<ℤ◌, sym, refl, ap, ◌∙◌, subst, mul-le-mul_left, arith}
-use Rattle.residues.specs.Circle.{◌modulo◌, distance}
-use Rattle.residues.specs.Products.{product}
-use Rattle.residues.proofs.Ring.{ring, lin}
+use Rattle.std.proofs.Common.{◌≡◌, ℕ, ◌+◌, ◌*◌, ◌<◌, ◌≤◌, List, length, get_or, ℤ, pos, ◌+ℤ◌, ◌-ℤ◌, ◌*ℤ◌, ◌≤ℤ◌, ◌<ℤ◌, refl, subst, mul-le-mul_left, arith}
+use Rattle.residues.specs.Circle.{◌modulo◌}
+use Rattle.residues.proofs.Ring.{lin}
 use Rattle.residues.proofs.Floor.{split}
 use Rattle.residues.proofs.Products.{product_pos}
-use Rattle.settings.specs.Settings.{Accepted, modulus_at, range_of}
+use Rattle.settings.specs.Settings.{Accepted, range_of}
 use Rattle.unfolding.specs.Channels.{total, GreatestAt, LeastAt}
 use Rattle.unfolding.specs.Folds.{Turns, unfolded_at}
-use Rattle.unfolding.specs.Brackets.{Allowed, InBracket, Exact, NoPosition, low_at, high_at, rounded_mean, MeanNear}
+use Rattle.unfolding.specs.Brackets.{Allowed, Exact, NoPosition, low_at, high_at, rounded_mean, MeanNear}
 use Rattle.unfolding.proofs.Agreed.{factors_pos}
-use Rattle.unfolding.proofs.Arcs.{Between, to_between, from_between, near_round}
+use Rattle.unfolding.proofs.Arcs.{to_between, from_between, near_round}
 use Rattle.unfolding.proofs.Covers.{Covers, from_cover, to_cover, range_pos}
 use Rattle.unfolding.proofs.Averages.{total_low, total_high, mean_low, mean_high}
 

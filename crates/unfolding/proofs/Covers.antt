@@ -1,8 +1,6 @@
 -- The positions that every reading allows are those that the unfolded readings cover.
-use Rattle.std.proofs.Common.{◌≡◌, ℕ, zero, suc, ◌+◌, ◌-◌, ◌*◌, ◌<◌, ◌≤◌, List, length, get_or, ℤ, pos, negsuc, ◌+ℤ◌, ◌-ℤ◌, ◌*ℤ◌, neg_ℤ, ◌≤ℤ◌, ◌<ℤ◌, sym, refl, ap, ◌∙◌, subst, mul-pos, arith}
+use Rattle.std.proofs.Common.{◌≡◌, ℕ, ◌*◌, ◌<◌, List, length, get_or, ℤ, pos, ◌+ℤ◌, ◌-ℤ◌, ◌*ℤ◌, neg_ℤ, ◌≤ℤ◌, ◌<ℤ◌, refl, ap, mul-pos, arith}
 use native.Mathlib.Decide.{dec_lt}
-use Rattle.residues.specs.Circle.{Allows, Errs}
-use Rattle.residues.specs.Products.{product}
 use Rattle.residues.proofs.Ring.{ring, lin}
 use Rattle.residues.proofs.Round.{allows_errs, from_error}
 use Rattle.residues.proofs.Products.{product_has, product_pos}

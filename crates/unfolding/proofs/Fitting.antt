@@ -1,10 +1,9 @@
 -- That quotients, folding numbers and unfolded readings fit the machine's numbers.
-use Rattle.std.proofs.Common.{◌≡◌, ℕ, zero, suc, ◌+◌, ◌-◌, ◌*◌, ◌^◌, ◌<◌, ◌≤◌, List, length, get_or, ℤ, pos, negsuc, ◌+ℤ◌, ◌-ℤ◌, ◌*ℤ◌, neg_ℤ, ◌≤ℤ◌, ◌<ℤ◌, sym, refl, ap, ◌∙◌, subst, mul-le-mul_left, arith}
+use Rattle.std.proofs.Common.{◌≡◌, ℕ, ◌*◌, ◌^◌, ◌<◌, ◌≤◌, List, length, get_or, ℤ, pos, ◌+ℤ◌, ◌-ℤ◌, ◌*ℤ◌, neg_ℤ, ◌≤ℤ◌, ◌<ℤ◌, sym, ap, subst, mul-le-mul_left, arith}
 use Rattle.std.specs.Int.{int_div_euclid}
-use Rattle.residues.specs.Products.{product}
 use Rattle.residues.proofs.Ring.{ring, lin}
 use Rattle.residues.proofs.Floor.{floor_low, floor_high, at_most}
-use Rattle.settings.specs.Settings.{Accepted, modulus_at, range_of}
+use Rattle.settings.specs.Settings.{Accepted, modulus_at}
 use Rattle.unfolding.specs.Digits.{Agreeing}
 use Rattle.unfolding.specs.Folds.{quotient_at}
 use Rattle.unfolding.proofs.Agreed.{factors_pos, product_few}

@@ -1,12 +1,12 @@
 -- What is known while a row of readings is folded, and what follows of each channel.
-use Rattle.std.proofs.Common.{◌≡◌, ℕ, zero, suc, ◌+◌, ◌-◌, ◌*◌, ◌^◌, ◌<◌, ◌≤◌, List, length, get_or, take, ℤ, pos, negsuc, ◌+ℤ◌, ◌-ℤ◌, ◌*ℤ◌, neg_ℤ, ◌≤ℤ◌, sym, refl, ap, ◌∙◌, subst, arith, get_or-take, w64, SFits, to_z, of_z}
+use Rattle.std.proofs.Common.{◌≡◌, ℕ, ◌-◌, ◌*◌, ◌^◌, ◌<◌, List, length, get_or, take, ℤ, pos, ◌+ℤ◌, ◌-ℤ◌, ◌*ℤ◌, neg_ℤ, ◌≤ℤ◌, sym, ap, ◌∙◌, subst, arith, get_or-take, w64, SFits, to_z, of_z}
 use Rattle.std.proofs.lemmas.Int.{to_z-of_z}
 use Rattle.std.specs.Int.{int_div_euclid}
 use Rattle.residues.specs.Circle.{◌modulo◌}
 use Rattle.residues.proofs.Ring.{lin}
 use Rattle.settings.specs.Settings.{Accepted, modulus_at}
 use Rattle.unfolding.specs.Digits.{Agreeing}
-use Rattle.unfolding.specs.Folds.{quotient_at, Turns, fold_at, unfolded_at}
+use Rattle.unfolding.specs.Folds.{quotient_at, fold_at}
 use Rattle.unfolding.specs.declared.kept.Folding.{Folding}
 use Rattle.unfolding.specs.Folded.{Folded}
 use Rattle.unfolding.proofs.Agreed.{factors_pos, apart}

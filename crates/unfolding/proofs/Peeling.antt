@@ -1,9 +1,9 @@
 -- Digits peeled off one at a time, and the number that they make.
-use Rattle.std.proofs.Common.{◌≡◌, ℕ, zero, suc, ◌+◌, ◌-◌, ◌*◌, ◌/◌, ◌%◌, ◌<◌, ◌≤◌, List, [], ◌∷◌, length, get_or, take, drop, ℤ, pos, negsuc, ◌+ℤ◌, ◌-ℤ◌, ◌*ℤ◌, neg_ℤ, sym, refl, ap, ◌∙◌, mod-lt, mul-le-mul_left, add-one, arith}
+use Rattle.std.proofs.Common.{◌≡◌, ℕ, zero, suc, ◌+◌, ◌-◌, ◌*◌, ◌%◌, ◌<◌, ◌≤◌, List, [], ◌∷◌, length, get_or, take, drop, ℤ, pos, ◌+ℤ◌, ◌-ℤ◌, ◌*ℤ◌, ap, ◌∙◌, mod-lt, add-one, arith}
 use Rattle.std.proofs.lemmas.List.{drop_more, drop_all}
 use Rattle.residues.specs.Products.{product}
 use Rattle.residues.proofs.Ring.{ring, lin}
-use Rattle.residues.proofs.Congruence.{Same, same_trans, same_sym, same_mul, same_mod}
+use Rattle.residues.proofs.Congruence.{Same, same_trans, same_sym, same_mod}
 use Rattle.unfolding.specs.Digits.{peeled, mixed}
 
 -- one digit less

@@ -1,7 +1,7 @@
 -- Remainders with bounds 0 unfold to the position that they are of, and only those do.
-use Rattle.std.proofs.Common.{◌≡◌, ℕ, zero, suc, ◌+◌, ◌-◌, ◌*◌, ◌/◌, ◌%◌, ◌<◌, ◌≤◌, List, length, get_or, ℤ, pos, negsuc, ◌+ℤ◌, ◌-ℤ◌, ◌*ℤ◌, neg_ℤ, ◌≤ℤ◌, Ok, Err, Result, sym, refl, ap, ◌∙◌, subst, mod-lt, mod-eq_of_lt, arith}
+use Rattle.std.proofs.Common.{◌≡◌, ℕ, ◌/◌, ◌%◌, ◌<◌, ◌≤◌, List, length, get_or, ℤ, pos, ◌+ℤ◌, ◌-ℤ◌, ◌*ℤ◌, neg_ℤ, ◌≤ℤ◌, Ok, Err, sym, refl, ap, ◌∙◌, subst, mod-lt, mod-eq_of_lt, arith}
 use native.Mathlib.Nat.{div-add-mod}
-use Rattle.residues.specs.Circle.{◌modulo◌, Allows}
+use Rattle.residues.specs.Circle.{Allows}
 use Rattle.residues.proofs.Ring.{ring, lin}
 use Rattle.residues.proofs.Floor.{modulo_is}
 use Rattle.residues.proofs.Congruence.{mod_same}
@@ -11,9 +11,9 @@ use Rattle.settings.proofs.Only.{one_position}
 use Rattle.unfolding.specs.declared.kept.Unfolding.{Unfolding}
 use Rattle.unfolding.specs.declared.refusals.UnfoldRefusal.{UnfoldRefusal}
 use Rattle.unfolding.specs.declared.refusals.UnfoldRefusal.TheVariants.{Readings, Bounds, WideBound, Wild, Contradictory}
-use Rattle.unfolding.specs.Brackets.{Allowed, InBracket, low_at, high_at}
+use Rattle.unfolding.specs.Brackets.{Allowed, InBracket}
 use Rattle.unfolding.specs.Folds.{unfolded_at}
-use Rattle.unfolding.specs.Refusals.{Paired, UnfoldRefused}
+use Rattle.unfolding.specs.Refusals.{UnfoldRefused}
 use Rattle.unfolding.specs.Returns.{BoundsZero, RemaindersOf, Found, IsFound}
 use Rattle.unfolding.specs.Unfolds.{Unfolds}
 use Rattle.unfolding.proofs.Covers.{modulus_pos}

@@ -1,12 +1,11 @@
 -- The theorem of robust remainders.
-use Rattle.std.proofs.Common.{◌≡◌, ℕ, zero, suc, ◌+◌, ◌*◌, ◌<◌, ◌≤◌, List, length, get_or, ℤ, pos, ◌+ℤ◌, ◌-ℤ◌, ◌*ℤ◌, neg_ℤ, ◌≤ℤ◌, ◌<ℤ◌, sym, refl, ap, ◌∙◌, subst, arith}
+use Rattle.std.proofs.Common.{◌≡◌, ℕ, ◌*◌, ◌<◌, List, length, get_or, ℤ, pos, ◌+ℤ◌, ◌-ℤ◌, ◌*ℤ◌, neg_ℤ, ◌<ℤ◌, ap, arith}
 use Rattle.residues.specs.Products.{product}
 use Rattle.residues.proofs.Ring.{ring, lin}
 use Rattle.residues.proofs.Floor.{rounds}
-use Rattle.residues.proofs.Bezout.{Divides, product_divides}
-use Rattle.settings.specs.Settings.{modulus_at, range_of}
+use Rattle.residues.proofs.Bezout.{product_divides}
 use Rattle.unfolding.specs.Folds.{CoprimeChannels, quotient_at, Turns, fold_at, unfolded_at}
-use Rattle.unfolding.specs.Robust.{ReadsNear, Robust, RobustRemainders}
+use Rattle.unfolding.specs.Robust.{Robust, RobustRemainders}
 use Rattle.unfolding.proofs.Turning.{evenly, place_is}
 
 -- two readings of N differ by whole units, and the difference of their errors

@@ -1,5 +1,5 @@
 -- From the units that agree with every channel to folding numbers that fold well.
-use Rattle.std.proofs.Common.{◌≡◌, ℕ, zero, suc, ◌+◌, ◌-◌, ◌*◌, ◌/◌, ◌%◌, ◌^◌, ◌<◌, ◌≤◌, List, [], ◌∷◌, length, get_or, ℤ, pos, negsuc, ◌+ℤ◌, ◌-ℤ◌, ◌*ℤ◌, neg_ℤ, ◌≤ℤ◌, ◌<ℤ◌, sym, refl, ap, ◌∙◌, subst, mul-le-mul_left, arith}
+use Rattle.std.proofs.Common.{◌≡◌, ℕ, zero, suc, ◌*◌, ◌<◌, List, length, get_or, ℤ, pos, negsuc, ◌+ℤ◌, ◌-ℤ◌, ◌*ℤ◌, neg_ℤ, ◌≤ℤ◌, ◌<ℤ◌, sym, ap, ◌∙◌, subst, arith}
 use native.Mathlib.Nat.{mul-lt-mul_of_pos_left, lt_of_mul-lt-mul_left, eq_of_mul-eq-mul_left}
 use Rattle.std.specs.Int.{int_div_euclid}
 use Rattle.residues.specs.Circle.{◌modulo◌}
@@ -7,7 +7,7 @@ use Rattle.residues.specs.Products.{product}
 use Rattle.residues.proofs.Ring.{ring, lin}
 use Rattle.residues.proofs.Floor.{split, floor_low, floor_high, floor_is, at_most, rounds}
 use Rattle.residues.proofs.Bezout.{Divides, product_divides}
-use Rattle.settings.specs.Settings.{modulus_at, range_of}
+use Rattle.settings.specs.Settings.{modulus_at}
 use Rattle.unfolding.specs.Digits.{Agreeing}
 use Rattle.unfolding.specs.Folds.{CoprimeChannels, quotient_at, Turns, fold_at, unfolded_at, FoldsWell}
 

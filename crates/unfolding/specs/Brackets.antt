@@ -1,8 +1,8 @@
 -- Which positions the readings allow, and the bracket and mean that tell them. Assumes nothing.
-use Rattle.std.specs.Prelude.{◌≡◌, ℕ, ◌*◌, ◌<◌, ◌≤◌, ◌↔◌, List, length, ℤ, pos, ◌+ℤ◌, ◌-ℤ◌, ◌*ℤ◌, slice_index}
+use Rattle.std.specs.Prelude.{ℕ, ◌*◌, ◌<◌, ◌≤◌, ◌↔◌, List, length, ℤ, pos, ◌+ℤ◌, ◌-ℤ◌, ◌*ℤ◌, slice_index}
 use Rattle.std.specs.Int.{int_div_euclid}
 use Rattle.residues.specs.Circle.{◌modulo◌, distance, Allows}
-use Rattle.settings.specs.Settings.{modulus_at, range_of}
+use Rattle.settings.specs.Settings.{modulus_at}
 use Rattle.unfolding.specs.Channels.{total}
 use Rattle.unfolding.specs.Folds.{unfolded_at}
 

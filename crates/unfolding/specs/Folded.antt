@@ -1,5 +1,5 @@
 -- What a folding keeps of the readings. Assumes nothing.
-use Rattle.std.specs.Prelude.{◌≡◌, ℕ, ◌^◌, ◌<◌, List, length, ℤ, pos, neg_ℤ, ◌≤ℤ◌, slice_index_or}
+use Rattle.std.specs.Prelude.{◌≡◌, ℕ, ◌^◌, ◌<◌, List, length, pos, neg_ℤ, ◌≤ℤ◌, slice_index_or}
 use Rattle.unfolding.specs.declared.kept.Folding.{Folding}
 use Rattle.unfolding.specs.Folds.{quotient_at, Turns, fold_at, unfolded_at}
 

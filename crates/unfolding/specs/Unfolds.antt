@@ -1,8 +1,8 @@
 -- What an unfolding tells, and what unfolding answers. Assumes nothing.
-use Rattle.std.specs.Prelude.{◌≡◌, ℕ, ◌+◌, ◌*◌, ◌%◌, ◌<◌, ◌≤◌, List, length, get_or, ℤ, pos, ◌+ℤ◌, ◌-ℤ◌, ◌≤ℤ◌, Ok, Err, Result}
+use Rattle.std.specs.Prelude.{◌≡◌, ℕ, ◌+◌, ◌*◌, ◌≤◌, List, length, pos, ◌+ℤ◌, ◌-ℤ◌, ◌≤ℤ◌, Ok, Err, Result}
 use Rattle.residues.specs.Circle.{◌modulo◌}
 use Rattle.settings.specs.declared.kept.Setting.{Setting}
-use Rattle.settings.specs.Settings.{modulus_at, range_of}
+use Rattle.settings.specs.Settings.{range_of}
 use Rattle.settings.specs.Told.{unit_of, factors_of}
 use Rattle.unfolding.specs.declared.kept.Unfolding.{Unfolding}
 use Rattle.unfolding.specs.declared.refusals.UnfoldRefusal.{UnfoldRefusal}

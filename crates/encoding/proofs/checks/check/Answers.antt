@@ -1,4 +1,4 @@
-use Rattle.std.proofs.Common.{sym, arith}
+use Rattle.std.proofs.Common.{sym}
 use Rattle.std.proofs.lemmas.Bool.{eqb-true}
 use Rattle.encoding.proofs.Passing.{all_fit, is_in, is_not_in}
 use Rattle.encoding.proofs.checks.check.Goals as goal

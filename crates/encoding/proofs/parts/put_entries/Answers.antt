@@ -1,4 +1,4 @@
-use Rattle.std.proofs.Common.{◌≡◌, length, sym, ap, ◌∙◌, arith}
+use Rattle.std.proofs.Common.{◌≡◌, length, ap, ◌∙◌, arith}
 use Rattle.std.specs.List.{flat_map}
 use Rattle.recordings.specs.declared.entries.ChannelEntry.{ChannelEntry}
 use Rattle.recordings.specs.Layout.{pair_of}

@@ -1,6 +1,6 @@
-use Rattle.std.proofs.Common.{◌≡◌, ℕ, ◌+◌, ◌*◌, List, ◌++◌, length, drop, sym, refl, ap, ◌∙◌, arith}
+use Rattle.std.proofs.Common.{◌≡◌, ◌+◌, ◌*◌, ◌++◌, length, drop, sym, refl, ap, ◌∙◌, arith}
 use Rattle.std.specs.List.{flat_map}
-use Rattle.recordings.specs.Layout.{encoded, ending, pair_of}
+use Rattle.recordings.specs.Layout.{ending, pair_of}
 use Rattle.recordings.specs.Numbers.{bytes_of}
 use Rattle.recordings.proofs.Words.{joined_append, length_bytes}
 use Rattle.recordings.proofs.Pairs.{length_pairs}

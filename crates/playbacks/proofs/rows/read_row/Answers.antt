@@ -1,4 +1,4 @@
-use Rattle.std.proofs.Common.{◌≡◌, ℕ, ◌<◌, length, get_or, Some, None, sym, ap, ◌∙◌, subst, arith, rules}
+use Rattle.std.proofs.Common.{ℕ, Some, None, sym, ap, ◌∙◌, subst, arith, rules}
 use Rattle.heads.specs.Advancing.{Advances}
 use Rattle.heads.specs.Answers.{answered}
 use Rattle.heads.specs.PhaseTables.{entry_of}

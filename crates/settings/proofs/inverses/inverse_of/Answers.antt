@@ -1,4 +1,4 @@
-use Rattle.std.proofs.Common.{◌≡◌, ℕ, ◌%◌, ap, ◌∙◌, mod-eq_of_lt}
+use Rattle.std.proofs.Common.{ℕ, ◌%◌, ap, ◌∙◌, mod-eq_of_lt}
 use Rattle.settings.proofs.inverses.inverse_of.Goals as goal
 
 -- 1 modulo a number above 1 is 1

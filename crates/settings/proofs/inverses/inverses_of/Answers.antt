@@ -1,4 +1,4 @@
-use Rattle.std.proofs.Common.{◌≡◌, [], length, replicate, refl, ap, ◌∙◌, add-one, arith, rules}
+use Rattle.std.proofs.Common.{[], length, replicate, ap, add-one, arith}
 use Rattle.std.proofs.lemmas.List.{get_or-replicate}
 use Rattle.std.proofs.lemmas.Result.{err_from_is_err_and}
 use Rattle.settings.proofs.inverses.inverses_of.Goals as goal

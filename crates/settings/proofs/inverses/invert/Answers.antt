@@ -1,4 +1,4 @@
-use Rattle.std.proofs.Common.{◌≡◌, ◌<◌, [], length, get_or, set, refl, ◌∙◌, arith, length-set}
+use Rattle.std.proofs.Common.{◌<◌, [], length, get_or, refl, ◌∙◌, arith, length-set}
 use Rattle.settings.proofs.Filled.{column_none, column_more, earlier_stay, rows_stay, made_more, shares}
 use Rattle.settings.proofs.inverses.invert.Goals as goal
 

@@ -1,4 +1,4 @@
-use Rattle.std.proofs.Common.{◌≡◌, ◌*◌, ◌^◌, ◌<◌, ◌≤◌, length, get_or, ◌∙◌, mul-pos, arith, length-set, below_more}
+use Rattle.std.proofs.Common.{◌*◌, get_or, ◌∙◌, mul-pos, arith, length-set, below_more}
 use Rattle.std.proofs.lemmas.List.Edits.{fill_by_more}
 use Rattle.settings.proofs.products.moduli_of.Goals as goal
 

@@ -1,4 +1,4 @@
-use Rattle.std.proofs.Common.{◌≡◌, ℕ, ◌<◌, length, take}
+use Rattle.std.proofs.Common.{◌≡◌, ℕ, ◌<◌, length}
 use Rattle.settings.specs.Kept.{Moduli}
 use Rattle.settings.specs.Settings.{ModulusFits}
 use Rattle.settings.proofs.products.moduli_of.Given as goal

@@ -1,4 +1,4 @@
-use Rattle.std.proofs.Common.{◌≡◌, ℕ, suc, ◌+◌, ◌*◌, ◌^◌, ◌<◌, ◌≤◌, length, get_or, take, sym, refl, ap, ◌∙◌, mul-one, add-one, arith}
+use Rattle.std.proofs.Common.{◌≡◌, ℕ, ◌*◌, length, get_or, take, refl, ap, ◌∙◌, add-one, arith}
 use lib.Seq.{take-length}
 use Rattle.settings.specs.Settings.{range_of}
 use Rattle.settings.proofs.Ranges.{range_more}

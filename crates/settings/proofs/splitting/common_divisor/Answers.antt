@@ -1,6 +1,5 @@
-use Rattle.std.proofs.Common.{ℕ, ◌<◌, get_or, arith, below_more}
+use Rattle.std.proofs.Common.{arith, below_more}
 use native.Mathlib.Nat.{dvd_trans, dvd-zero}
-use Prim.Native.Nat.{◌∣◌}
 use Rattle.settings.proofs.splitting.common_divisor.Goals as goal
 
 pub loop-number-init : goal.loop-number-init

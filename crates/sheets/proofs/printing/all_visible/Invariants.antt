@@ -1,4 +1,4 @@
-use Rattle.std.proofs.Common.{◌≡◌, true, take}
+use Rattle.std.proofs.Common.{take}
 use Rattle.std.specs.List.{AllByRecursion as All}
 use Rattle.sheets.specs.Printing.{Visible}
 use Rattle.sheets.proofs.printing.all_visible.Given as goal

@@ -1,4 +1,4 @@
-use Rattle.std.proofs.Common.{◌≡◌, ℕ, ◌^◌, ◌<◌, Bool, true, false, length, take, sym, refl, ap, ◌∙◌, arith, rules, true-eqb, false-eqb}
+use Rattle.std.proofs.Common.{sym, ◌∙◌, arith, true-eqb, false-eqb}
 use Rattle.std.proofs.lemmas.Int.Digits.{digits_more}
 use Rattle.tables.proofs.Numbers.{at_other, stray, capped_more, reads_back, ends_large, ends_number, empty_word}
 use Rattle.tables.proofs.numerals.number.Goals as goal

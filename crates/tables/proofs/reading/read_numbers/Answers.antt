@@ -1,5 +1,5 @@
-use Rattle.std.proofs.Common.{length, Ok, sym, refl, ap, ◌∙◌, arith}
-use Rattle.tables.proofs.Lines.{onto, none_yet, one_more}
+use Rattle.std.proofs.Common.{length, sym, ap, ◌∙◌, arith}
+use Rattle.tables.proofs.Lines.{none_yet, one_more}
 use Rattle.tables.proofs.reading.read_numbers.Goals as goal
 
 pub loop-word-init : goal.loop-word-init

@@ -1,7 +1,6 @@
-use Rattle.std.proofs.Common.{◌≡◌, ◌<◌, length, sym, ap, ◌∙◌, subst, arith, true-eqb, false-eqb}
+use Rattle.std.proofs.Common.{arith, true-eqb, false-eqb}
 use Rattle.tables.proofs.Runs.{Fronts, no_word, one_word}
 use Rattle.tables.proofs.Spells.{words_law}
-use Rattle.tables.specs.Words.{words}
 use Rattle.tables.proofs.splitting.first_word.Goals as goal
 use Rattle.tables.proofs.splitting.first_word.Goals.{After-split_at-2}
 

@@ -1,4 +1,4 @@
-use Rattle.std.proofs.Common.{◌≡◌, length, get_or, ℤ, pos, ◌+ℤ◌, ◌-ℤ◌, sym, ap, ◌∙◌, inl, inr, arith, w64, to_z, rules}
+use Rattle.std.proofs.Common.{◌≡◌, length, get_or, pos, ◌+ℤ◌, ◌-ℤ◌, sym, ap, ◌∙◌, inl, inr, arith, w64, rules}
 use Rattle.std.specs.Int.{int_max, int_min}
 use Rattle.std.proofs.lemmas.Int.{to_z-of_z}
 use Rattle.unfolding.specs.Ends.{begins_at, ends_at}

@@ -1,4 +1,4 @@
-use Rattle.std.proofs.Common.{◌≡◌, ℕ, List, get_or, ℤ, pos, ◌+ℤ◌, ◌*ℤ◌, refl, arith, length-set, rules}
+use Rattle.std.proofs.Common.{◌≡◌, ℕ, get_or, ℤ, pos, ◌+ℤ◌, ◌*ℤ◌, refl, arith, length-set, rules}
 use Rattle.unfolding.proofs.Filled.{filled_more}
 use Rattle.unfolding.proofs.Known.{knowing, turns_of_code, foldable, turns_fit, folded, turns_read, reading_read, product_read}
 use Rattle.unfolding.proofs.folding.fold.Goals as goal

@@ -1,4 +1,4 @@
-use Rattle.std.proofs.Common.{◌≡◌, ℕ, cond, leb, length, sym, ap, ◌∙◌}
+use Rattle.std.proofs.Common.{ℕ, cond, leb, length, sym, ap, ◌∙◌}
 use Rattle.playbacks.specs.Playing.{playback_channels}
 use Rattle.playbacks.proofs.Played.{count_is}
 use Rattle.playbacks.proofs.playing.PlaybackBank.count.Goals as goal

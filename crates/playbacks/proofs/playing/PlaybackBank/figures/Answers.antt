@@ -1,4 +1,4 @@
-use Rattle.std.proofs.Common.{◌≡◌, sym, ap, ◌∙◌}
+use Rattle.std.proofs.Common.{sym, ap, ◌∙◌}
 use Rattle.banks.specs.Banks.{channel_figures}
 use Rattle.playbacks.specs.Playing.{playback_channels}
 use Rattle.playbacks.proofs.Played.{tells_none, tells_there}

@@ -1,6 +1,5 @@
-use Rattle.std.proofs.Common.{◌≡◌, ◌-◌, ◌*◌, false, sym, ap, ◌∙◌, arith, rules}
+use Rattle.std.proofs.Common.{◌-◌, sym, ap, arith}
 use Rattle.std.proofs.lemmas.Result.{err_from_is_err_and}
-use Rattle.recordings.specs.Refusals.{place_in, row_count_in, channel_count_in, PlacesAgree}
 use Rattle.recordings.proofs.Firsts.{one_refusal}
 use Rattle.recordings.proofs.Meanings.{records_one, refused_records_nothing}
 use Rattle.recordings.proofs.Passing.{passed, places_agree, places_disagree, unfit_at}

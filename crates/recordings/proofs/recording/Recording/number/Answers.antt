@@ -1,6 +1,6 @@
-use Rattle.std.proofs.Common.{◌≡◌, ◌+◌, ◌*◌, ◌/◌, ◌<◌, ◌≤◌, length, Some, sym, refl, ap, ◌∙◌, arith}
+use Rattle.std.proofs.Common.{◌≡◌, ◌/◌, length, Some, sym, refl, ap, ◌∙◌, arith}
 use Rattle.recordings.specs.Numbers.{number_from}
-use Rattle.recordings.specs.Contents.{entries_of, rows_of}
+use Rattle.recordings.specs.Contents.{rows_of}
 use Rattle.recordings.proofs.Words.{length_numbers}
 use Rattle.recordings.proofs.Columns.{no_row, number_found, place_below}
 use Rattle.recordings.proofs.recording.Recording.number.Goals as goal

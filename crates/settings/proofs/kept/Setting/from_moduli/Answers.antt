@@ -1,4 +1,4 @@
-use Rattle.std.proofs.Common.{◌≡◌, ◌-◌, ◌≤◌, length, take, rules}
+use Rattle.std.proofs.Common.{◌≤◌, length, take, rules}
 use native.Mathlib.Nat.{sub-zero}
 use Rattle.settings.specs.Told.{Makes}
 use Rattle.settings.proofs.ModuliLaws.{moduli_refused_not_accepted, one_moduli_refusal}

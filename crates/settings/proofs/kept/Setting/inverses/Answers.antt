@@ -1,4 +1,4 @@
-use Rattle.std.proofs.Common.{◌≡◌, [], length, get_or, arith, rules}
+use Rattle.std.proofs.Common.{rules}
 use Rattle.settings.proofs.Passed.{inverse_told}
 use Rattle.settings.proofs.kept.Setting.inverses.Goals as goal
 

@@ -1,4 +1,4 @@
-use Rattle.std.proofs.Common.{◌≡◌, rules}
+use Rattle.std.proofs.Common.{rules}
 use Rattle.settings.proofs.Passed.{moduli_told}
 use Rattle.settings.proofs.kept.Setting.moduli.Goals as goal
 

@@ -1,6 +1,6 @@
-use Rattle.std.proofs.Common.{◌≡◌, ℕ, List, length, sym, refl, ap, ◌∙◌, subst, rules}
+use Rattle.std.proofs.Common.{sym, refl, ap, ◌∙◌, subst, rules}
 use Rattle.std.proofs.lemmas.Result.{err_from_is_err_and}
-use Rattle.settings.specs.Settings.{Counted, EachFromTo, ModulusFits, RangeFits, range_of}
+use Rattle.settings.specs.Settings.{Counted, EachFromTo, RangeFits, range_of}
 use Rattle.settings.proofs.Laws.{refused_not_accepted, one_refusal}
 use Rattle.settings.proofs.Placed.{moduli_placed, below_placed, invert_placed, made_coprime}
 use Rattle.settings.proofs.kept.Setting.new.Goals as goal

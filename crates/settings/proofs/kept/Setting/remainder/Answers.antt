@@ -1,4 +1,4 @@
-use Rattle.std.proofs.Common.{◌≡◌, ℕ, ◌%◌, ◌<◌, ◌≤◌, length, get_or, take, refl, ap, mod-lt, arith, length-take-le, rules}
+use Rattle.std.proofs.Common.{ℕ, ◌%◌, ◌≤◌, length, refl, ap, mod-lt, arith, length-take-le, rules}
 use Rattle.settings.proofs.Only.{one_position}
 use Rattle.settings.proofs.Passed.{passed, modulus_kept, modulus_pos}
 use Rattle.settings.proofs.kept.Setting.remainder.Goals as goal

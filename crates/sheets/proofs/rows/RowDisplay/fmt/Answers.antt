@@ -1,8 +1,8 @@
-use Rattle.std.proofs.Common.{◌≡◌, ◌/◌, length, is_ok, ap, arith}
+use Rattle.std.proofs.Common.{◌≡◌, length, is_ok, ap, arith}
 use Rattle.std.proofs.Output.{writes_in_calls_nil, has_written_append, has_written_of_eq}
 use Rattle.recordings.specs.Contents.{entries_of, rows_of}
-use Rattle.sheets.specs.Rows.{cells, figure_words, row_lines}
-use Rattle.sheets.proofs.Texts.{figure_more, figure_all, cell_more, row_more}
+use Rattle.sheets.specs.Rows.{cells}
+use Rattle.sheets.proofs.Texts.{cell_more}
 use Rattle.sheets.proofs.rows.RowDisplay.fmt.Goals as goal
 
 pub loop-channel-init : goal.loop-channel-init

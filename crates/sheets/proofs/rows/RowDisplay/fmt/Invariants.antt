@@ -1,7 +1,7 @@
-use Rattle.std.proofs.Common.{length, take}
+use Rattle.std.proofs.Common.{length}
 use Rattle.std.specs.Fmt.{IsPlainFormatter, HasWritten}
 use Rattle.recordings.specs.Contents.{entries_of, rows_of}
-use Rattle.sheets.specs.Rows.{cells, figure_words, row_lines}
+use Rattle.sheets.specs.Rows.{cells}
 use Rattle.sheets.proofs.rows.RowDisplay.fmt.Given as goal
 
 abbrev pub invariant-loop-channel : goal.invariant-loop-channel

@@ -1,4 +1,3 @@
-use Rattle.std.proofs.Common.{◌≡◌, false, sym, refl}
 use Rattle.tables.proofs.Headed.{none_seen}
 use Rattle.tables.proofs.desks.Desk.new.Goals as goal
 
