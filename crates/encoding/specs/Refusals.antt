@@ -1,6 +1,6 @@
 -- Each refusal's number and fields, and when it is the answer. Assumes nothing.
 use Rattle.std.specs.Prelude.{◌≡◌, ℕ, ◌%◌, ◌^◌, ◌<◌, ◌≤◌, List, length, slice_index_or}
-use Rattle.std.specs.List.{AllByRecursion as All}
+use Rattle.std.specs.List.{AllByRecursion}
 use Rattle.records.specs.declared.faults.Fault.{Fault}
 use Rattle.recordings.specs.declared.entries.ChannelEntry.{ChannelEntry}
 use Rattle.recordings.specs.Layout.{encoded, entry_fits}
@@ -46,4 +46,4 @@ abbrev pub WriteRefused : (room : ℕ) (note xs : List ℕ) (es : List ChannelEn
 WriteRefused room note xs es Channels = Counted es → ⊥
 WriteRefused room note xs es Rows = Counted es × (Whole xs es → ⊥)
 WriteRefused room note xs es (UnfitEntry k) = Counted es × Whole xs es × UnfitFirst es k
-WriteRefused room note xs es Room = Counted es × Whole xs es × All entry_fits es × (FitsIn room note xs es → ⊥)
+WriteRefused room note xs es Room = Counted es × Whole xs es × AllByRecursion entry_fits es × (FitsIn room note xs es → ⊥)

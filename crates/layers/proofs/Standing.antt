@@ -1,7 +1,7 @@
 -- A layer stands where it carries what the head below stands at.
 use Rattle.std.proofs.Common.{◌≡◌, ℕ, zero, suc, ◌+◌, ◌*◌, ◌/◌, ◌%◌, ◌<◌, ◌≤◌, Bool, true, false, ◌&&◌, ltb, leb, List, [], ◌∷◌, map, ℤ, pos, negsuc, ◌+ℤ◌, ◌-ℤ◌, ◌*ℤ◌, neg_ℤ, nat_abs, ◌≤ℤ◌, refl, ap, mul-le-mul_right, mul-pos, arith, ltb-true, leb-true}
 use native.Mathlib.Nat.{div-add-mod}
-use Rattle.std.specs.List.{AllByRecursion as All}
+use Rattle.std.specs.List.{AllByRecursion}
 use Rattle.residues.specs.Circle.{Allows}
 use Rattle.residues.proofs.Ring.{ring, lin}
 use Rattle.residues.proofs.Round.{to_error, from_error}
@@ -15,14 +15,14 @@ use Rattle.layers.specs.Layering.{told_over, turned, zero_turns, gear_proper}
 use Rattle.layers.specs.Carrying.{zero_over, gear_over, zero_carries, gear_carries}
 
 -- where every entry of a fit layer allows Q, the layer stands at Q
-pub layer_stands : (b h : Bool) (m t d : ℕ) (w : List Entry) (Q : ℤ) → (b ≡ true → h ≡ true → All (Allowing m t Q) w)
-    → All (Allowing (told_over b h m t d).modulus (told_over b h m t d).bound Q) (if_fit (b && h) w)
+pub layer_stands : (b h : Bool) (m t d : ℕ) (w : List Entry) (Q : ℤ) → (b ≡ true → h ≡ true → AllByRecursion (Allowing m t Q) w)
+    → AllByRecursion (Allowing (told_over b h m t d).modulus (told_over b h m t d).bound Q) (if_fit (b && h) w)
 layer_stands true true m t d w Q k = k refl refl
 layer_stands true false m t d w Q k = tt
 layer_stands false h m t d w Q k = tt
 
 -- readings that are turned allow Q where those below allowed P
-turned_allow : (g : ℕ → ℕ) (m t n u : ℕ) (P Q : ℤ) (w : List Entry) → ((r : ℕ) → Allows m t r P → Allows n u (g r) Q) → All (Allowing m t P) w → All (Allowing n u Q) (map (turned g) w)
+turned_allow : (g : ℕ → ℕ) (m t n u : ℕ) (P Q : ℤ) (w : List Entry) → ((r : ℕ) → Allows m t r P → Allows n u (g r) Q) → AllByRecursion (Allowing m t P) w → AllByRecursion (Allowing n u Q) (map (turned g) w)
 turned_allow g m t n u P Q [] h a = tt
 turned_allow g m t n u P Q (reading r ∷ w) h a = (h r a.0, turned_allow g m t n u P Q w h a.1)
 turned_allow g m t n u P Q (faulty k x y z ∷ w) h a = (tt, turned_allow g m t n u P Q w h a.1)

@@ -1,13 +1,13 @@
 -- A line tells what was printed, since no digit is a space or a line feed. Assumes nothing.
 use Rattle.std.proofs.Common.{◌≡◌, ℕ, ◌+◌, ◌%◌, ◌^◌, ◌<◌, List, [], ◌∷◌, ◌++◌, codes, decimal, refl, arith}
-use Rattle.std.specs.List.{AllByRecursion as All}
+use Rattle.std.specs.List.{AllByRecursion}
 use Rattle.std.proofs.lemmas.Fmt.{decimal_by_steps, decimal_injective}
 use Rattle.std.proofs.ByRecursion.{All-push}
 use Rattle.std.proofs.lemmas.List.{append_cancel_left}
 use Rattle.lines.specs.LineLaws.{TellsFix, TellsFault}
 
 -- lists up to a mark that is below all they hold
-parted : (s : ℕ) (cs bs xs ys : List ℕ) → All (λ d. s < d) cs → All (λ d. s < d) bs → cs ++ s ∷ xs ≡ bs ++ s ∷ ys → (cs ≡ bs) × (xs ≡ ys)
+parted : (s : ℕ) (cs bs xs ys : List ℕ) → AllByRecursion (λ d. s < d) cs → AllByRecursion (λ d. s < d) bs → cs ++ s ∷ xs ≡ bs ++ s ∷ ys → (cs ≡ bs) × (xs ≡ ys)
 parted s [] [] xs ys p q e = let t : xs ≡ ys = cc in (refl, t)
 parted s [] (b ∷ bs) xs ys p q e = let t : s ≡ b = cc in absurd (omega (arith, q.0))
 parted s (a ∷ cs) [] xs ys p q e = let t : a ≡ s = cc in absurd (omega (arith, p.0))
@@ -19,9 +19,9 @@ parted s (a ∷ cs) (b ∷ bs) xs ys p q e =
     let v : a ∷ cs ≡ b ∷ bs = cc in
     (v, r.1)
 
-digits_above : (s : ℕ) → s < 48 → (n : ℕ) → n < 2 ^ 64 → All (λ d. s < d) (decimal n)
+digits_above : (s : ℕ) → s < 48 → (n : ℕ) → n < 2 ^ 64 → AllByRecursion (λ d. s < d) (decimal n)
 digits_above s low =
-    decimal_by_steps (λ _ ds. All (λ d. s < d) ds)
+    decimal_by_steps (λ _ ds. AllByRecursion (λ d. s < d) ds)
     (λ n h. (omega arith, tt))
     (λ n ds h r. All-push (λ d. s < d) ds (48 + n % 10) r (omega arith))
 

@@ -1,7 +1,7 @@
 -- Bytes that pass every check are a recording.
 use Rattle.std.proofs.Common.{◌≡◌, ℕ, ◌+◌, ◌-◌, ◌*◌, ◌/◌, ◌<◌, ◌≤◌, true, false, ◌&&◌, eqb, leb, List, [], ◌∷◌, ◌++◌, length, get_or, take, drop, sym, ap, ◌∙◌, arith}
 use native.Mathlib.Nat.{div-eq_of_eq-mul_left}
-use Rattle.std.specs.List.{flat_map, AllByRecursion as All}
+use Rattle.std.specs.List.{flat_map, AllByRecursion}
 use Rattle.std.proofs.lemmas.List.{drop_all, drop-drop, get_or-take, get_or-drop, length-drop, length-take-le, take-append-drop}
 use Rattle.std.proofs.ByRecursion.{All-drop, All-from_get_or, All-take}
 use Rattle.std.proofs.lemmas.Bool.{and_from, and_parts, both_ways, eq-eqb, eqb-true, le-leb, leb-true}
@@ -91,7 +91,7 @@ passing bs a small counted agree start fit =
     let ends : p + 8 * c + 16 ≡ length bs = agree.ends in
     let room : 4 * (n * c) ≤ p = agree.rows_fit in
     let some : 1 ≤ c = counted.some in
-    let all : All Byte bs = All-from_get_or Byte bs 0 (λ i _. small i) in
+    let all : AllByRecursion Byte bs = All-from_get_or Byte bs 0 (λ i _. small i) in
     let lnote : length (take a bs) ≡ a = length-take-le a bs (omega arith) in
     let span : p - a ≡ 4 * (n * c) = omega arith in
     let lrows : length rows ≡ 4 * (n * c) = length-take-le (p - a) (drop a bs) (simp length-drop (omega arith)) ∙ span in

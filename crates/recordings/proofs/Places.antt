@@ -1,6 +1,6 @@
 -- What stands at each place of a recording's bytes.
 use Rattle.std.proofs.Common.{◌≡◌, ℕ, ◌+◌, ◌*◌, ◌/◌, ◌^◌, ◌<◌, ◌≤◌, true, ltb, leb, List, [], ◌∷◌, ◌++◌, length, get_or, sym, ap, ◌∙◌, div-le_self, arith, length-append}
-use Rattle.std.specs.List.{flat_map, AllByRecursion as All}
+use Rattle.std.specs.List.{flat_map, AllByRecursion}
 use Rattle.std.proofs.lemmas.List.{get_or-append-add, get_or_append_left}
 use Rattle.std.proofs.ByRecursion.{All-append}
 use Rattle.std.proofs.lemmas.Bool.{and_parts, leb-true, ltb-true}
@@ -19,7 +19,7 @@ fit_limits m t e =
     let q = and_parts (leb m (2 ^ 31)) (ltb (4 * t) m) p.1 in
     (leb-true m (2 ^ 31) q.0, ltb-true (4 * t) m q.1)
 
-pub pairs_words : (es : List ChannelEntry) → All entry_fits es → All Word (flat_map pair_of es)
+pub pairs_words : (es : List ChannelEntry) → AllByRecursion entry_fits es → AllByRecursion Word (flat_map pair_of es)
 pairs_words [] h = tt
 pairs_words (e ∷ es) h = let l = fit_limits e.modulus e.bound h.0 in (omega arith, (omega arith, pairs_words es h.1))
 
@@ -27,7 +27,7 @@ pairs_words (e ∷ es) h = let l = fit_limits e.modulus e.bound h.0 in (omega ar
 abbrev pub numbers_after : (note xs : List ℕ) (es : List ChannelEntry) → List ℕ
 numbers_after note xs es = xs ++ (flat_map pair_of es ++ ending note xs es)
 
-pub all_words : (note xs : List ℕ) (es : List ChannelEntry) → Recordable note xs es → All Word (numbers_after note xs es)
+pub all_words : (note xs : List ℕ) (es : List ChannelEntry) → Recordable note xs es → AllByRecursion Word (numbers_after note xs es)
 all_words note xs es r =
     let n = div-le_self (length xs) (length es) in
     let low : Word (place_of note xs) = r.reached in
@@ -38,7 +38,7 @@ all_words note xs es r =
 pub length_after : (note xs : List ℕ) (es : List ChannelEntry) → length (numbers_after note xs es) ≡ length xs + (2 * length es + 4)
 length_after note xs es = length-append xs _ ∙ ap (λ n. length xs + n) (length-append (flat_map pair_of es) _ ∙ ap (λ n. n + 4) (length_pairs es))
 
-pub number_in : (note ys : List ℕ) (i : ℕ) → All Word ys → i < length ys → number_from (note ++ flat_map bytes_of ys) (length note + 4 * i) ≡ get_or ys i 0
+pub number_in : (note ys : List ℕ) (i : ℕ) → AllByRecursion Word ys → i < length ys → number_from (note ++ flat_map bytes_of ys) (length note + 4 * i) ≡ get_or ys i 0
 number_in note ys i h l =
     let b = length_bytes ys in
     number_after note (flat_map bytes_of ys) (4 * i) ∙ sym (number_at (flat_map bytes_of ys) i (omega arith)) ∙ ap (λ z. get_or z i 0) (numbers_back ys h)

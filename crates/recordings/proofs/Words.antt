@@ -1,7 +1,7 @@
 -- Numbers and their bytes, there and back.
 use Rattle.std.proofs.Common.{◌≡◌, ℕ, zero, suc, ◌+◌, ◌-◌, ◌*◌, ◌/◌, ◌%◌, ◌^◌, ◌<◌, ◌≤◌, List, [], ◌∷◌, ◌++◌, length, get_or, drop, sym, refl, ap, ◌∙◌, add_assoc, mod-eq_of_lt, div-add-mod', arith}
 use native.Mathlib.Nat.{div-div-eq-div-mul}
-use Rattle.std.specs.List.{flat_map, AllByRecursion as All}
+use Rattle.std.specs.List.{flat_map, AllByRecursion}
 use Rattle.std.proofs.lemmas.List.{append_assoc, get_or-append-add, get_or-drop, drop_more}
 use Rattle.recordings.specs.Numbers.{bytes_of, number_of, number_from, numbers_in}
 
@@ -35,7 +35,7 @@ number_of_bytes x h =
 pub number_word : (a b c d : ℕ) → Byte a → Byte b → Byte c → Byte d → Word (number_of a b c d)
 number_word a b c d ha hb hc hd = omega arith
 
-pub numbers_back : (xs : List ℕ) → All Word xs → numbers_in (flat_map bytes_of xs) ≡ xs
+pub numbers_back : (xs : List ℕ) → AllByRecursion Word xs → numbers_in (flat_map bytes_of xs) ≡ xs
 numbers_back [] h = refl
 numbers_back (x ∷ xs) h = let e = number_of_bytes x h.0 in let r = numbers_back xs h.1 in cc
 
@@ -46,14 +46,14 @@ length_numbers (a ∷ b ∷ []) = refl
 length_numbers (a ∷ b ∷ c ∷ []) = refl
 length_numbers (a ∷ b ∷ c ∷ d ∷ bs) = omega (arith, length_numbers bs)
 
-pub numbers_words : (bs : List ℕ) → All Byte bs → All Word (numbers_in bs)
+pub numbers_words : (bs : List ℕ) → AllByRecursion Byte bs → AllByRecursion Word (numbers_in bs)
 numbers_words [] h = tt
 numbers_words (a ∷ []) h = tt
 numbers_words (a ∷ b ∷ []) h = tt
 numbers_words (a ∷ b ∷ c ∷ []) h = tt
 numbers_words (a ∷ b ∷ c ∷ d ∷ bs) h = (number_word a b c d h.0 h.1.0 h.1.1.0 h.1.1.1.0, numbers_words bs h.1.1.1.1)
 
-pub bytes_back : (bs : List ℕ) (n : ℕ) → All Byte bs → length bs ≡ 4 * n → flat_map bytes_of (numbers_in bs) ≡ bs
+pub bytes_back : (bs : List ℕ) (n : ℕ) → AllByRecursion Byte bs → length bs ≡ 4 * n → flat_map bytes_of (numbers_in bs) ≡ bs
 bytes_back [] n h l = refl
 bytes_back (a ∷ []) n h l = absurd (omega arith)
 bytes_back (a ∷ b ∷ []) n h l = absurd (omega arith)

@@ -1,6 +1,6 @@
 -- The layout of a recording: the bytes of a note, rows and entries. Assumes nothing.
 use Rattle.std.specs.Prelude.{◌≡◌, ℕ, ◌+◌, ◌*◌, ◌/◌, ◌^◌, ◌<◌, ◌≤◌, true, List, [], ◌∷◌, ◌++◌, length}
-use Rattle.std.specs.List.{flat_map, AllByRecursion as All}
+use Rattle.std.specs.List.{flat_map, AllByRecursion}
 use Rattle.heads.specs.Figures.{fits}
 use Rattle.recordings.specs.declared.entries.ChannelEntry.{ChannelEntry}
 use Rattle.recordings.specs.Numbers.{bytes_of}
@@ -29,8 +29,8 @@ pub record Recordable (note xs : List ℕ) (es : List ChannelEntry) : Type 0 whe
   pub some : 1 ≤ length es
   pub few : length es ≤ 8
   pub whole : length xs ≡ length xs / length es * length es
-  pub small : All (λ x. x < 2 ^ 32) xs
-  pub fit : All entry_fits es
+  pub small : AllByRecursion (λ x. x < 2 ^ 32) xs
+  pub fit : AllByRecursion entry_fits es
   pub reached : place_of note xs < 2 ^ 32
 
 -- these bytes are the recording of this note, these rows and these entries

@@ -1,6 +1,6 @@
 -- The text that bytes are printed as: a table, or a refusal's line. Assumes nothing.
 use Rattle.std.specs.Prelude.{◌≡◌, ℕ, ◌<◌, Bool, true, not, ◌&&◌, ◌⊎◌, List, ◌++◌, length, Ok, Err, codes, IsUtf8, Result, ◌==◌, nat_le}
-use Rattle.std.specs.List.{AllByRecursion as All}
+use Rattle.std.specs.List.{AllByRecursion}
 use Rattle.recordings.specs.declared.recording.Recording.{Recording}
 use Rattle.recordings.specs.declared.refusals.CheckRefusal.{CheckRefusal}
 use Rattle.recordings.specs.Contents.{note_of, rows_of, entries_of}
@@ -19,7 +19,7 @@ Visible b = visible b ≡ true
 pub record IsText (note : List ℕ) : Type 0 where
   pub some : 0 < length note
   pub utf8 : IsUtf8 note
-  pub all_visible : All Visible note
+  pub all_visible : AllByRecursion Visible note
 
 -- a table with its note before it, where that is a line of text
 abbrev pub Noted : (note table text : List ℕ) → Type 0

@@ -6,7 +6,7 @@ ghost use Rattle.tables.specs.Answers.{refusal_line};
 ghost use Rattle.sheets.specs.Headings.{HeadingsBack};
 ghost use Rattle.sheets.specs.Printing.{IsText, Noted, Printed, Visible, visible};
 ghost use Rattle.sheets.specs.Rows.{table_of};
-ghost use Rattle.std.specs.List.{AllByRecursion as All};
+ghost use Rattle.std.specs.List.{AllByRecursion};
 
 use crate::rows::{Figures, Rows};
 use recordings::{CheckRefusal, Recording};
@@ -23,7 +23,7 @@ fn is_visible(byte: u8) -> bool
 
 /// Whether every byte is visible.
 fn all_visible(note: &[u8]) -> bool
-    ensures { MatchBool result (All Visible note.now) (All Visible note.now → ⊥) }
+    ensures { MatchBool result (AllByRecursion Visible note.now) (AllByRecursion Visible note.now → ⊥) }
 {
     for b in note {
         if !is_visible(*b) {

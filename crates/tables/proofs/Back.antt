@@ -5,7 +5,7 @@ use Rattle.std.proofs.ByRecursion.{All-from_get_or}
 use Rattle.std.proofs.lemmas.Str.Parse.{digit_at, numerals_by_value, tells_digits}
 use Rattle.std.specs.Str.Parse.{AllDigits}
 use Rattle.std.specs.Int.{IsInRange}
-use Rattle.std.specs.List.{AllByRecursion as All}
+use Rattle.std.specs.List.{AllByRecursion}
 use Rattle.std.specs.Str.{bytes_eq}
 use Rattle.tables.specs.declared.headings.Heading.{Heading}
 use Rattle.tables.specs.declared.parts.Part.{Part}
@@ -21,7 +21,7 @@ use Rattle.tables.specs.Tables.{allowed, and_then, numbers_of, line_in}
 use Rattle.tables.specs.Words.{is_space, words}
 
 abbrev Solid : List ℕ → Type 0
-Solid w = All (λ b. is_space b ≡ false) w
+Solid w = AllByRecursion (λ b. is_space b ≡ false) w
 
 digits : (n : ℕ) → n < 2 ^ 32 → AllDigits 10 (decimal n)
 digits n small = digits_decimal (numerals_by_value _ tells_digits) n (omega arith)

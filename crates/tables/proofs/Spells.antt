@@ -1,6 +1,6 @@
 -- The laws of words. Assumes nothing.
 use Rattle.std.proofs.Common.{◌≡◌, ℕ, ◌<◌, Bool, true, false, cond, List, [], ◌∷◌, ◌++◌, length, refl, ap, ◌∙◌, arith}
-use Rattle.std.specs.List.{AllByRecursion as All}
+use Rattle.std.specs.List.{AllByRecursion}
 use Rattle.tables.specs.Spelling.{WordsLaw}
 use Rattle.tables.specs.Words.{is_space, lengthened, opened, words}
 
@@ -41,7 +41,7 @@ words_parts (b ∷ []) ys = by (is_space b)
     by false = refl
 words_parts (b ∷ c ∷ xs) ys = goes_on b c xs ys (words_parts (c ∷ xs) ys) (is_space b)
 
-words_single : (w : List ℕ) → 0 < length w → All (λ b. is_space b ≡ false) w → words w ≡ w ∷ []
+words_single : (w : List ℕ) → 0 < length w → AllByRecursion (λ b. is_space b ≡ false) w → words w ≡ w ∷ []
 words_single [] some solid = absurd (omega arith)
 words_single (b ∷ []) some solid = rw solid.0 refl
 words_single (b ∷ c ∷ w) some solid =

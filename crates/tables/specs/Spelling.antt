@@ -1,6 +1,6 @@
 -- What is written is read back: the laws of words, rows and heading lines. Assumes nothing.
 use Rattle.std.specs.Prelude.{◌≡◌, ℕ, ◌^◌, ◌<◌, true, false, List, [], ◌∷◌, ◌++◌, length, Ok, codes, decimal}
-use Rattle.std.specs.List.{flat_map, AllByRecursion as All}
+use Rattle.std.specs.List.{flat_map, AllByRecursion}
 use Rattle.tables.specs.declared.headings.Heading.{Heading}
 use Rattle.tables.specs.declared.parts.Part.TheVariants.{Moduli, Bounds, Row}
 use Rattle.tables.specs.Lines.{part_of}
@@ -10,14 +10,14 @@ use Rattle.tables.specs.Words.{is_space, words}
 -- at a space a text falls into two, each with its own words; a text without one is one word
 pub record WordsLaw : Type 0 where
   pub parts : (xs ys : List ℕ) → words (xs ++ 32 ∷ ys) ≡ words xs ++ words ys
-  pub single : (w : List ℕ) → 0 < length w → All (λ b. is_space b ≡ false) w → words w ≡ w ∷ []
+  pub single : (w : List ℕ) → 0 < length w → AllByRecursion (λ b. is_space b ≡ false) w → words w ≡ w ∷ []
 
 -- each number after a space
 abbrev pub spaced : List ℕ → List ℕ
 spaced ns = flat_map (λ n. 32 ∷ decimal n) ns
 
 abbrev pub Small : List ℕ → Type 0
-Small ns = All (λ n. n < 2 ^ 32) ns
+Small ns = AllByRecursion (λ n. n < 2 ^ 32) ns
 
 -- numbers below 2^32, written with one space between them, are read back
 pub record ReadsBack : Type 0 where

@@ -2,7 +2,7 @@ use Rattle.std.proofs.Common.{◌≡◌, true, false, get_or, subst, arith, rule
 use Rattle.std.proofs.ByRecursion.{All-more, All-get_or}
 use Rattle.std.proofs.lemmas.List.{take_all}
 use Rattle.std.proofs.lemmas.Bool.{both_ways}
-use Rattle.std.specs.List.{AllByRecursion as All}
+use Rattle.std.specs.List.{AllByRecursion}
 use Rattle.sheets.specs.Printing.{Visible, visible}
 use Rattle.sheets.proofs.printing.all_visible.Goals as goal
 
@@ -18,4 +18,4 @@ loop-b-preserved c =
     All-more Visible c.args.note.now c.loop-b.b-index 0 (omega arith) c.loop-b.invariant v
 
 pub returns : goal.returns
-returns c = subst (λ z. All Visible z) (take_all c.loop-b.b-index c.args.note.now (omega arith)) c.loop-b.invariant
+returns c = subst (λ z. AllByRecursion Visible z) (take_all c.loop-b.b-index c.args.note.now (omega arith)) c.loop-b.invariant
