@@ -16,7 +16,7 @@ minus infinity, as the rules do.
 To compare a program with it on a random input:
 
     tools/expected.py table 100000 1 > T
-    target/bin/unfold < T | diff - <(tools/expected.py unfold < T)
+    crates/unfold/out/unfold < T | diff - <(tools/expected.py unfold < T)
 """
 import itertools
 import random
