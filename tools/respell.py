@@ -15,8 +15,11 @@ WORD = re.compile(r"[^\s(){}\[\],;.:\"«»]+")
 DECLARED = re.compile(r"^\s*(?:abbrev |unfoldable )?(?:pub )?(?:record |data )?(?:pub )?([^\s(){}\[\],;.:\"«»]+)((?:\s+[({][^)}]*[)}])*)\s*:(?:\s|$)(.*)")
 FOREIGN = re.compile(r"use ((?:Rattle\.std|borrow|native|mathlib|lib|Prim|denote)[^\s{]*)\.\{([^}]*)\}")
 GOALS = ("Answers.antt", "Invariants.antt", "Given.antt", "Goals.antt", "Proof.antt")
-# names that would fall together with others
-CHOSEN = {"seen-in": "seen_in_step", "entriesIn": "entries_of_table", "Reads-back": "IsReadBack", "Too-short": "IsTooShort"}
+# names that would fall together with others, and facts that had the spelling of a value
+CHOSEN = {
+    "seen-in": "seen_in_step", "entriesIn": "entries_of_table", "Reads-back": "IsReadBack", "Too-short": "IsTooShort",
+    "burst-carries": "BurstCarries", "zero-carries": "ZeroCarries", "gear-carries": "GearCarries", "entry-fits": "EntryFits",
+}
 KEYWORDS = {"use", "module", "where", "let", "in", "elim", "mod", "unfolding", "infix", "infixl", "infixr", "ruleset", "as"}
 
 

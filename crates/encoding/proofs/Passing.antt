@@ -4,15 +4,15 @@ use Rattle.std.specs.List.{AllByRecursion}
 use Rattle.std.proofs.ByRecursion.{All-from_get_or}
 use Rattle.std.proofs.lemmas.Bool.{and_from, and_parts, both_ways, le-leb, leb-true}
 use Rattle.recordings.specs.declared.entries.ChannelEntry.{ChannelEntry}
-use Rattle.recordings.specs.Layout.{entry_fits}
+use Rattle.recordings.specs.Layout.{EntryFits}
 use Rattle.recordings.proofs.Places.{length_encoded}
 use Rattle.encoding.specs.Refusals.{FitAt, FitsIn, Whole}
 
 pub whole_rows : (xs : List ℕ) (es : List ChannelEntry) → Whole xs es → length xs ≡ length xs / length es * length es
 whole_rows xs es h = omega (arith, div-add-mod' (length xs) (length es))
 
-pub all_fit : (es : List ChannelEntry) → ((k : ℕ) → k < length es → FitAt es k) → AllByRecursion entry_fits es
-all_fit es h = All-from_get_or entry_fits es (record { modulus = 0; bound = 0 }) h
+pub all_fit : (es : List ChannelEntry) → ((k : ℕ) → k < length es → FitAt es k) → AllByRecursion EntryFits es
+all_fit es h = All-from_get_or EntryFits es (record { modulus = 0; bound = 0 }) h
 
 pub is_in : (room : ℕ) (note xs : List ℕ) (es : List ChannelEntry) → (leb (length note + 4 * length xs + 8 * length es + 16) room && leb (length note + 4 * length xs + 8 * length es + 16) (2 ^ 31)) ≡ true → FitsIn room note xs es
 is_in room note xs es h =

@@ -3,7 +3,7 @@ use Rattle.std.specs.Prelude.{◌≡◌, ℕ, ◌%◌, ◌^◌, ◌<◌, ◌≤�
 use Rattle.std.specs.List.{AllByRecursion}
 use Rattle.records.specs.declared.faults.Fault.{Fault}
 use Rattle.recordings.specs.declared.entries.ChannelEntry.{ChannelEntry}
-use Rattle.recordings.specs.Layout.{encoded, entry_fits}
+use Rattle.recordings.specs.Layout.{encoded, EntryFits}
 use Rattle.encoding.specs.declared.refusals.WriteRefusal.{WriteRefusal}
 use Rattle.encoding.specs.declared.refusals.WriteRefusal.TheVariants.{Channels, Rows, UnfitEntry, Room}
 
@@ -28,7 +28,7 @@ Whole xs es = length xs % length es ≡ 0
 
 -- channel k's entry is fit
 abbrev pub FitAt : (es : List ChannelEntry) (k : ℕ) → Type 0
-FitAt es k = entry_fits (slice_index_or es k (record { modulus = 0; bound = 0 }))
+FitAt es k = EntryFits (slice_index_or es k (record { modulus = 0; bound = 0 }))
 
 -- k is the lowest channel whose entry is unfit
 pub record UnfitFirst (es : List ChannelEntry) (k : ℕ) : Type 0 where
@@ -46,4 +46,4 @@ abbrev pub WriteRefused : (room : ℕ) (note xs : List ℕ) (es : List ChannelEn
 WriteRefused room note xs es Channels = Counted es → ⊥
 WriteRefused room note xs es Rows = Counted es × (Whole xs es → ⊥)
 WriteRefused room note xs es (UnfitEntry k) = Counted es × Whole xs es × UnfitFirst es k
-WriteRefused room note xs es Room = Counted es × Whole xs es × AllByRecursion entry_fits es × (FitsIn room note xs es → ⊥)
+WriteRefused room note xs es Room = Counted es × Whole xs es × AllByRecursion EntryFits es × (FitsIn room note xs es → ⊥)

@@ -2,7 +2,7 @@
 use Rattle.std.specs.Prelude.{◌≡◌, ℕ, List, ◌++◌, length, take, drop, Ok, Err, Result}
 use Rattle.std.specs.List.{AllByRecursion}
 use Rattle.recordings.specs.declared.entries.ChannelEntry.{ChannelEntry}
-use Rattle.recordings.specs.Layout.{encoded, entry_fits, Recordable}
+use Rattle.recordings.specs.Layout.{encoded, EntryFits, Recordable}
 use Rattle.recordings.specs.Laws.{IsReadBack}
 use Rattle.encoding.specs.declared.refusals.WriteRefusal.{WriteRefusal}
 use Rattle.encoding.specs.Refusals.{Counted, Whole, FitsIn, WriteRefused}
@@ -11,7 +11,7 @@ use Rattle.encoding.specs.Refusals.{Counted, Whole, FitsIn, WriteRefused}
 pub record AllPass (room : ℕ) (note xs : List ℕ) (es : List ChannelEntry) : Type 0 where
   pub counted : Counted es
   pub whole : Whole xs es
-  pub fit : AllByRecursion entry_fits es
+  pub fit : AllByRecursion EntryFits es
   pub fits_in : FitsIn room note xs es
 
 -- a buffer that held out holds out' once n bytes were written: the recording in front, and the old rest

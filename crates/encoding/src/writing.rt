@@ -11,8 +11,8 @@ use recordings::ChannelEntry;
 /// The last four numbers: the place of the entries, the count of rows, the
 /// count of channels and the edition.
 fn ending_of(place: usize, numbers: usize, channels: usize) -> [u32; 4]
-    requires place_bound { (place < 2 ^ 32) × (numbers < 2 ^ 32) }
-    requires le_channels { (1 ≤ channels) × (channels ≤ 8) }
+    requires numbers_fit { (place < 2 ^ 32) × (numbers < 2 ^ 32) }
+    requires channels_counted { (1 ≤ channels) × (channels ≤ 8) }
     ensures { result ≡ place ∷ numbers / channels ∷ channels ∷ 1 ∷ [] }
 {
     let rows = numbers / channels;
@@ -21,9 +21,9 @@ fn ending_of(place: usize, numbers: usize, channels: usize) -> [u32; 4]
 
 /// All parts into the front of the output, one after another, and where they end.
 fn put_all(out: &mut [u8], note: &[u8], rows: &[u32], entries: &[ChannelEntry]) -> usize
-    requires in_bounds { (1 ≤ length entries.now) × (length entries.now ≤ 8) }
-    requires entries_in_bounds { length note.now + 4 * length rows.now + 8 * length entries.now + 16 ≤ length out.old }
-    requires rows_len_bound { length note.now + 4 * length rows.now < 2 ^ 32 }
+    requires counted { (1 ≤ length entries.now) × (length entries.now ≤ 8) }
+    requires in_room { length note.now + 4 * length rows.now + 8 * length entries.now + 16 ≤ length out.old }
+    requires in_limit { length note.now + 4 * length rows.now < 2 ^ 32 }
     ensures end { result ≡ length note.now + 4 * length rows.now + 8 * length entries.now + 16 }
     ensures after { out.new ≡ encoded note.now rows.now entries.now ++ drop result out.old }
 {

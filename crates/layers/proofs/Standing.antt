@@ -12,7 +12,7 @@ use Rattle.heads.specs.PhaseTables.{if_fit}
 use Rattle.heads.specs.EncoderTrackLaws.{both_left, both_right}
 use Rattle.heads.specs.Standing.{Allowing, Carried}
 use Rattle.layers.specs.Layering.{told_over, turned, zero_turns, gear_proper}
-use Rattle.layers.specs.Carrying.{zero_over, gear_over, zero_carries, gear_carries}
+use Rattle.layers.specs.Carrying.{zero_over, gear_over, ZeroCarries, GearCarries}
 
 -- where every entry of a fit layer allows Q, the layer stands at Q
 pub layer_stands : (b h : Bool) (m t d : ℕ) (w : List Entry) (Q : ℤ) → (b ≡ true → h ≡ true → AllByRecursion (Allowing m t Q) w)
@@ -28,12 +28,12 @@ turned_allow g m t n u P Q (reading r ∷ w) h a = (h r a.0, turned_allow g m t 
 turned_allow g m t n u P Q (faulty k x y z ∷ w) h a = (tt, turned_allow g m t n u P Q w h a.1)
 
 -- r is P and an error: r and z, round m, is P and z and that error
-zero_allows : (z m t r : ℕ) (P Q : ℤ) → 0 < m → zero_carries z P Q → Allows m t r P → Allows m t (zero_turns z m r) Q
+zero_allows : (z m t r : ℕ) (P Q : ℤ) → 0 < m → ZeroCarries z P Q → Allows m t r P → Allows m t (zero_turns z m r) Q
 zero_allows z m t r P Q h c a =
     let (e, j, q, l, u) = to_error m t (pos r) P h a in
     from_error m t (pos ((r + z) % m)) Q e (j -ℤ pos ((r + z) / m)) h (simp ring (omega (arith, lin, simp ring at q, div-add-mod (r + z) m))) l u
 
-pub zero_stands : (z : ℕ) (c : Channel) → Carried c (zero_over z c) (zero_carries z)
+pub zero_stands : (z : ℕ) (c : Channel) → Carried c (zero_over z c) (ZeroCarries z)
 zero_stands z c P Q a k =
     let f : Figures = c.figures in
     layer_stands f.fit (ltb z f.modulus && leb (f.depth + 1) 255) f.modulus f.bound f.depth (map (turned (zero_turns z f.modulus)) c.waits) Q
@@ -54,7 +54,7 @@ scaled_error s t (pos x) l u = let h : x ≤ t = omega (arith, lin) in (omega (a
 scaled_error s t (negsuc x) l u = let h : suc x ≤ t = omega (arith, lin) in (omega (arith, lin, mul-le-mul_right s h), omega (arith, lin))
 
 -- r is P and an error e: r s is Q and an error of e s and what Q is from P s
-gear_allows : (s w m t r : ℕ) (P Q : ℤ) → 0 < m → 0 < s → gear_carries s w P Q → Allows m t r P → Allows (m * s) (t * s + w) (r * s) Q
+gear_allows : (s w m t r : ℕ) (P Q : ℤ) → 0 < m → 0 < s → GearCarries s w P Q → Allows m t r P → Allows (m * s) (t * s + w) (r * s) Q
 gear_allows s w m t r P Q h p c a =
     let (e, j, q, l, u) = to_error m t (pos r) P h a in
     let b = scaled_error s t e l u in
@@ -64,7 +64,7 @@ gear_allows s w m t r P Q h p c a =
     (omega (arith, lin, b, n))
     (omega (arith, lin, b, n))
 
-pub gear_stands : (s w : ℕ) (c : Channel) → Carried c (gear_over s w c) (gear_carries s w)
+pub gear_stands : (s w : ℕ) (c : Channel) → Carried c (gear_over s w c) (GearCarries s w)
 gear_stands s w c P Q a k =
     let f : Figures = c.figures in
     layer_stands f.fit (gear_proper s w f && leb (f.depth + 1) 255) (f.modulus * s) (f.bound * s + w) f.depth (map (turned (λ r. r * s)) c.waits) Q

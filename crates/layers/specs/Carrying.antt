@@ -10,9 +10,9 @@ abbrev pub gear_over : (s w : ℕ) → Channel → Channel
 gear_over s w c = channel_of (gear_told s w c.figures) (gear_waits s w c.figures c.waits)
 
 -- zero z carries a position z on
-abbrev pub zero_carries : (z : ℕ) (P Q : ℤ) → Type 0
-zero_carries z P Q = Q ≡ P +ℤ pos z
+abbrev pub ZeroCarries : (z : ℕ) (P Q : ℤ) → Type 0
+ZeroCarries z P Q = Q ≡ P +ℤ pos z
 
 -- gear s, w carries a position to any number within w of s times it
-abbrev pub gear_carries : (s w : ℕ) (P Q : ℤ) → Type 0
-gear_carries s w P Q = unsigned_abs (Q -ℤ P *ℤ pos s) ≤ w
+abbrev pub GearCarries : (s w : ℕ) (P Q : ℤ) → Type 0
+GearCarries s w P Q = unsigned_abs (Q -ℤ P *ℤ pos s) ≤ w

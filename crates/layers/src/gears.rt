@@ -2,7 +2,7 @@
 ghost use Rattle.std.specs.Prelude.{◌≡◌, ◌+◌, ◌*◌, ◌<◌, ◌≤◌};
 ghost use Rattle.heads.specs.Channels.{channel_of};
 ghost use Rattle.heads.specs.Standing.{Carried};
-ghost use Rattle.layers.specs.Carrying.{gear_carries, gear_over};
+ghost use Rattle.layers.specs.Carrying.{GearCarries, gear_over};
 ghost use Rattle.layers.specs.Layering.{Geared, gear_told, gear_waits};
 ghost use Rattle.layers.specs.LayeringLaws.{gear_laws};
 
@@ -20,7 +20,7 @@ pub struct Gear<H> {
 impl<H: Head> Gear<H> {
     pub fn new(below: H, scale: u32, slack: u32) -> Gear<H>
         ensures means { gear_over result.scale result.slack (channel_of (H.Head.shape result.below) (H.Head.waiting result.below)) ≡ gear_over scale slack (channel_of (H.Head.shape below) (H.Head.waiting below)) }
-        ensures stands { Carried (channel_of (H.Head.shape below) (H.Head.waiting below)) (gear_over scale slack (channel_of (H.Head.shape below) (H.Head.waiting below))) (gear_carries scale slack) }
+        ensures stands { Carried (channel_of (H.Head.shape below) (H.Head.waiting below)) (gear_over scale slack (channel_of (H.Head.shape below) (H.Head.waiting below))) (GearCarries scale slack) }
         ensures below { result.below ≡ below }
         ensures scale { result.scale ≡ scale }
         ensures slack { result.slack ≡ slack }

@@ -2,7 +2,7 @@
 ghost use Rattle.std.specs.Prelude.{◌≡◌, ◌+◌, ◌%◌, ◌<◌, ◌≤◌};
 ghost use Rattle.heads.specs.Channels.{channel_of};
 ghost use Rattle.heads.specs.Standing.{Carried};
-ghost use Rattle.layers.specs.Carrying.{zero_carries, zero_over};
+ghost use Rattle.layers.specs.Carrying.{ZeroCarries, zero_over};
 ghost use Rattle.layers.specs.Layering.{zero_told, zero_turns, zero_waits};
 ghost use Rattle.layers.specs.LayeringLaws.{zero_laws};
 
@@ -19,7 +19,7 @@ pub struct Zero<H> {
 impl<H: Head> Zero<H> {
     pub fn new(below: H, zero: u32) -> Zero<H>
         ensures means { zero_over result.zero (channel_of (H.Head.shape result.below) (H.Head.waiting result.below)) ≡ zero_over zero (channel_of (H.Head.shape below) (H.Head.waiting below)) }
-        ensures stands { Carried (channel_of (H.Head.shape below) (H.Head.waiting below)) (zero_over zero (channel_of (H.Head.shape below) (H.Head.waiting below))) (zero_carries zero) }
+        ensures stands { Carried (channel_of (H.Head.shape below) (H.Head.waiting below)) (zero_over zero (channel_of (H.Head.shape below) (H.Head.waiting below))) (ZeroCarries zero) }
         ensures below { result.below ≡ below }
         ensures zero { result.zero ≡ zero }
     {

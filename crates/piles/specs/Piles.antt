@@ -3,8 +3,8 @@ use Rattle.std.specs.Prelude.{◌≡◌, ℕ, ◌*◌, List, [], ◌∷◌, drop
 use Rattle.heads.specs.Channels.{Channel, channel_of}
 use Rattle.heads.specs.Laws.{Lawful}
 use Rattle.heads.specs.Standing.{Stands}
-use Rattle.layers.specs.Bursts.{burst_over, burst_carries}
-use Rattle.layers.specs.Carrying.{zero_over, gear_over, zero_carries, gear_carries}
+use Rattle.layers.specs.Bursts.{burst_over, BurstCarries}
+use Rattle.layers.specs.Carrying.{zero_over, gear_over, ZeroCarries, GearCarries}
 
 -- a layer by its numbers
 pub data Layer : Type 0 where
@@ -20,9 +20,9 @@ laid (burst_layer b) c = burst_over b c
 
 -- the layer carries P to Q
 abbrev pub Carries : Layer → (P Q : ℤ) → Type 0
-Carries (zero_layer z) P Q = zero_carries z P Q
-Carries (gear_layer s w) P Q = gear_carries s w P Q
-Carries (burst_layer b) P Q = burst_carries P Q
+Carries (zero_layer z) P Q = ZeroCarries z P Q
+Carries (gear_layer s w) P Q = GearCarries s w P Q
+Carries (burst_layer b) P Q = BurstCarries P Q
 
 -- a foot and its layers, the lowest first
 abbrev pub pile : Channel → List Layer → Channel

@@ -7,7 +7,7 @@ use Rattle.heads.specs.Figures.{fits}
 use Rattle.recordings.specs.declared.entries.ChannelEntry.{ChannelEntry}
 use Rattle.recordings.specs.declared.refusals.CheckRefusal.TheVariants.{TooShort, Edition, Channels, Places, UnfitEntry}
 use Rattle.recordings.specs.Numbers.{number_from, numbers_in}
-use Rattle.recordings.specs.Layout.{pair_of, entry_fits, place_of, Records}
+use Rattle.recordings.specs.Layout.{pair_of, EntryFits, place_of, Records}
 use Rattle.recordings.specs.Contents.{note_of, rows_of, entries_of, entries_in}
 use Rattle.recordings.specs.Refusals.{place_in, row_count_in, channel_count_in, PlacesAgree, FitsFrom}
 use Rattle.recordings.specs.Laws.{RefusedRecordsNothing, RecordsOne, IsReadBack}
@@ -26,7 +26,7 @@ fit_at bs note xs es k r h =
     let l : k < length es = omega (arith, s.channels_are) in
     let m : number_from bs (place_in bs + 8 * k) ≡ (get_or es k d).modulus = ap (λ p. number_from bs (p + 8 * k)) s.place_is ∙ s.modulus_at k d l in
     let t : number_from bs (place_in bs + 8 * k + 4) ≡ (get_or es k d).bound = ap (λ p. number_from bs (p + 8 * k + 4)) s.place_is ∙ s.bound_at k d l in
-    ap (λ z. fits z (number_from bs (place_in bs + 8 * k + 4))) m ∙ ap (λ z. fits (get_or es k d).modulus z) t ∙ All-get_or entry_fits es k d l r.recordable.fit
+    ap (λ z. fits z (number_from bs (place_in bs + 8 * k + 4))) m ∙ ap (λ z. fits (get_or es k d).modulus z) t ∙ All-get_or EntryFits es k d l r.recordable.fit
 
 agrees : (bs note xs : List ℕ) (es : List ChannelEntry) → Records bs note xs es → PlacesAgree bs
 agrees bs note xs es r =

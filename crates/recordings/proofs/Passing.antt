@@ -7,7 +7,7 @@ use Rattle.std.proofs.ByRecursion.{All-drop, All-from_get_or, All-take}
 use Rattle.std.proofs.lemmas.Bool.{and_from, and_parts, both_ways, eq-eqb, eqb-true, le-leb, leb-true}
 use Rattle.recordings.specs.declared.entries.ChannelEntry.{ChannelEntry}
 use Rattle.recordings.specs.Numbers.{bytes_of, number_from, numbers_in}
-use Rattle.recordings.specs.Layout.{pair_of, entry_fits, place_of, ending, encoded, Records}
+use Rattle.recordings.specs.Layout.{pair_of, EntryFits, place_of, ending, encoded, Records}
 use Rattle.recordings.specs.Contents.{entry_from, entries_in}
 use Rattle.recordings.specs.Refusals.{place_in, row_count_in, channel_count_in, edition_in, Counted, PlacesAgree, FitsFrom, UnfitFirst}
 use Rattle.recordings.proofs.Words.{Byte, Word, bytes_back, joined_append, length_numbers, next_number, number_at, number_word, numbers_words}
@@ -129,7 +129,7 @@ passing bs a small counted agree start fit =
         few = omega (arith, counted.few);
         whole = lxs ∙ ap (λ z. z * c) (sym count) ∙ ap (λ z. length xs / length es * z) (sym les);
         small = numbers_words rows (All-take Byte _ _ (All-drop Byte a bs all));
-        fit = All-from_get_or entry_fits es d (λ k h. rw (entry_in_part p c k bs d (omega arith) (omega arith)) (fit k (omega arith)));
+        fit = All-from_get_or EntryFits es d (λ k h. rw (entry_in_part p c k bs d (omega arith) (omega arith)) (fit k (omega arith)));
         reached = omega arith;
       };
       bytes_are = sym whole;

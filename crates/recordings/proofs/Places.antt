@@ -7,7 +7,7 @@ use Rattle.std.proofs.lemmas.Bool.{and_parts, leb-true, ltb-true}
 use Rattle.heads.specs.Figures.{fits}
 use Rattle.recordings.specs.declared.entries.ChannelEntry.{ChannelEntry}
 use Rattle.recordings.specs.Numbers.{bytes_of, number_from}
-use Rattle.recordings.specs.Layout.{pair_of, entry_fits, place_of, ending, encoded, Recordable}
+use Rattle.recordings.specs.Layout.{pair_of, EntryFits, place_of, ending, encoded, Recordable}
 use Rattle.recordings.specs.Refusals.{place_in, row_count_in, channel_count_in, edition_in}
 use Rattle.recordings.proofs.Words.{Word, numbers_back, number_at, number_after, length_bytes}
 use Rattle.recordings.proofs.Pairs.{entries_back, length_pairs, entry_of_numbers}
@@ -19,7 +19,7 @@ fit_limits m t e =
     let q = and_parts (leb m (2 ^ 31)) (ltb (4 * t) m) p.1 in
     (leb-true m (2 ^ 31) q.0, ltb-true (4 * t) m q.1)
 
-pub pairs_words : (es : List ChannelEntry) → AllByRecursion entry_fits es → AllByRecursion Word (flat_map pair_of es)
+pub pairs_words : (es : List ChannelEntry) → AllByRecursion EntryFits es → AllByRecursion Word (flat_map pair_of es)
 pairs_words [] h = tt
 pairs_words (e ∷ es) h = let l = fit_limits e.modulus e.bound h.0 in (omega arith, (omega arith, pairs_words es h.1))
 

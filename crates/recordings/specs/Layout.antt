@@ -9,8 +9,8 @@ use Rattle.recordings.specs.Numbers.{bytes_of}
 abbrev pub pair_of : ChannelEntry → List ℕ
 pair_of e = e.modulus ∷ e.bound ∷ []
 
-abbrev pub entry_fits : ChannelEntry → Type 0
-entry_fits e = fits e.modulus e.bound ≡ true
+abbrev pub EntryFits : ChannelEntry → Type 0
+EntryFits e = fits e.modulus e.bound ≡ true
 
 -- where the rows end and the entries begin; xs are the numbers of all rows, row after row
 abbrev pub place_of : (note xs : List ℕ) → ℕ
@@ -30,7 +30,7 @@ pub record Recordable (note xs : List ℕ) (es : List ChannelEntry) : Type 0 whe
   pub few : length es ≤ 8
   pub whole : length xs ≡ length xs / length es * length es
   pub small : AllByRecursion (λ x. x < 2 ^ 32) xs
-  pub fit : AllByRecursion entry_fits es
+  pub fit : AllByRecursion EntryFits es
   pub reached : place_of note xs < 2 ^ 32
 
 -- these bytes are the recording of this note, these rows and these entries

@@ -5,7 +5,7 @@ use Rattle.recordings.specs.declared.recording.Recording.{Recording}
 use Rattle.recordings.specs.declared.refusals.CheckRefusal.{CheckRefusal}
 use Rattle.recordings.specs.declared.refusals.CheckRefusal.TheVariants.{TooShort, Edition, Channels, Places, UnfitEntry}
 use Rattle.recordings.specs.Numbers.{number_from}
-use Rattle.recordings.specs.Layout.{entry_fits, Records}
+use Rattle.recordings.specs.Layout.{EntryFits, Records}
 use Rattle.recordings.specs.Contents.{entry_from, note_of, rows_of, entries_of}
 
 -- number and channel; the depth and the two figures are 0
@@ -39,7 +39,7 @@ pub record PlacesAgree (bs : List ℕ) : Type 0 where
 
 -- the entry whose first byte stands at place p is fit
 abbrev pub FitsFrom : (bs : List ℕ) (p : ℕ) → Type 0
-FitsFrom bs p = entry_fits (entry_from bs p)
+FitsFrom bs p = EntryFits (entry_from bs p)
 
 -- k is the lowest of c channels whose entry, from place p on, is unfit
 pub record UnfitFirst (bs : List ℕ) (p c k : ℕ) : Type 0 where

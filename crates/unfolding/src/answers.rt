@@ -16,9 +16,9 @@ use settings::Setting;
 
 // Which channels leave no position, and by how much.
 fn contradictory(unfolded: &[i64], bounds: &[u32], ends: (i64, i64)) -> UnfoldRefusal
-    requires bounds_len { (length bounds.now ≡ length unfolded.now) × ((Moderate unfolded.now) × ((ends.1 ≤ℤ ends.0) × ((Small ends.0) × (Small ends.1)))) }
-    requires by_index { (k : ℕ) × GreatestAt (length unfolded.now) (begins_at unfolded.now bounds.now) ends.0 k }
-    requires by_index_2 { (k : ℕ) × LeastAt (length unfolded.now) (ends_at unfolded.now bounds.now) ends.1 k }
+    requires shapes { (length bounds.now ≡ length unfolded.now) × ((Moderate unfolded.now) × ((ends.1 ≤ℤ ends.0) × ((Small ends.0) × (Small ends.1)))) }
+    requires greatest { (k : ℕ) × GreatestAt (length unfolded.now) (begins_at unfolded.now bounds.now) ends.0 k }
+    requires least { (k : ℕ) × LeastAt (length unfolded.now) (ends_at unfolded.now bounds.now) ends.1 k }
     ensures { Crossed unfolded.now bounds.now ends.0 ends.1 result }
 {
     let low = channel_of_lo(unfolded, bounds, ends.0);

@@ -39,8 +39,8 @@ pub(crate) fn ends(unfolded: &[i64], bounds: &[u32]) -> (i64, i64)
 
 /// The lowest channel that begins at `lo`.
 pub(crate) fn channel_of_lo(unfolded: &[i64], bounds: &[u32], lo: i64) -> usize
-    requires bounds_len { (length bounds.now ≡ length unfolded.now) × (Moderate unfolded.now) }
-    requires by_index { (k : ℕ) × GreatestAt (length unfolded.now) (begins_at unfolded.now bounds.now) lo k }
+    requires shapes { (length bounds.now ≡ length unfolded.now) × (Moderate unfolded.now) }
+    requires greatest { (k : ℕ) × GreatestAt (length unfolded.now) (begins_at unfolded.now bounds.now) lo k }
     ensures { GreatestAt (length unfolded.now) (begins_at unfolded.now bounds.now) lo result }
 {
     for k in 0..unfolded.len() {
@@ -53,8 +53,8 @@ pub(crate) fn channel_of_lo(unfolded: &[i64], bounds: &[u32], lo: i64) -> usize
 
 /// The lowest channel that reaches to `hi`.
 pub(crate) fn channel_of_hi(unfolded: &[i64], bounds: &[u32], hi: i64) -> usize
-    requires bounds_len { (length bounds.now ≡ length unfolded.now) × (Moderate unfolded.now) }
-    requires by_index { (k : ℕ) × LeastAt (length unfolded.now) (ends_at unfolded.now bounds.now) hi k }
+    requires shapes { (length bounds.now ≡ length unfolded.now) × (Moderate unfolded.now) }
+    requires least { (k : ℕ) × LeastAt (length unfolded.now) (ends_at unfolded.now bounds.now) hi k }
     ensures { LeastAt (length unfolded.now) (ends_at unfolded.now bounds.now) hi result }
 {
     for k in 0..unfolded.len() {

@@ -11,7 +11,7 @@ pub put_all-requires : goal.put_all-requires
 put_all-requires c =
     let p = c.requires in
     let l = length_encoded c.args.note.now c.args.rows.now c.args.entries.now in
-    (record { in_bounds = (p.counted.some, p.counted.few); entries_in_bounds = omega (arith, p.fits_in.in_room); rows_len_bound = omega (arith, p.fits_in.in_limit) })
+    (record { counted = (p.counted.some, p.counted.few); in_room = omega (arith, p.fits_in.in_room); in_limit = omega (arith, p.fits_in.in_limit) })
 
 pub returns : goal.returns
 returns c =

@@ -32,9 +32,9 @@ contradictory-requires c =
     let cs = c.unfolded-unfolded.result.now in
     let cut = c.unfolded-unfolded.ensures in
     let s = c.ends-ends.ensures.small in (record {
-      bounds_len = (paired _ _ _ _ a fine _ d cs cut (search rules), (moderate _ _ _ _ a fine _ d cs cut (search rules), (weaker _ _ (less_read _ _ s.1 s.0 c.if-ends.true), (s.0, s.1))));
-      by_index = c.ends-ends.ensures.lo;
-      by_index_2 = c.ends-ends.ensures.hi;
+      shapes = (paired _ _ _ _ a fine _ d cs cut (search rules), (moderate _ _ _ _ a fine _ d cs cut (search rules), (weaker _ _ (less_read _ _ s.1 s.0 c.if-ends.true), (s.0, s.1))));
+      greatest = c.ends-ends.ensures.lo;
+      least = c.ends-ends.ensures.hi;
     })
 
 pub returns-then-ends : goal.returns-then-ends
