@@ -1,22 +1,17 @@
 -- Where a channel of two joined banks stands, in the words of their lists.
 use Rattle.std.proofs.Common.{◌≡◌, ℕ, zero, suc, ◌+◌, ◌<◌, ◌≤◌, Bool, true, false, leb, List, [], ◌∷◌, ◌++◌, length, Some, None, Ok, Err, Option, Result, sym, refl, ap, ◌∙◌, arith, length-append, le-leb}
-use borrow.Author.Tests.{lt-leb}
+use Rattle.std.proofs.lemmas.Option.{slice_get_past}
 use Rattle.heads.specs.declared.faults.HeadFault.{HeadFault}
 use Rattle.heads.specs.Channels.{Channel}
 use Rattle.banks.specs.declared.faults.BankFault.{BankFault}
 use Rattle.banks.specs.declared.faults.BankFault.TheVariants.{NoSuchChannel}
-use Rattle.banks.specs.declared.joined_banks.Place.{Place}
-use Rattle.banks.specs.declared.joined_banks.Place.TheVariants.{First, Second}
 use Rattle.banks.specs.Banks.{channel_at, channel_rest, told_by, answered_by, of_channel}
 use Rattle.banks.specs.JoinedBanks.{both, if_few, joined_count, count_if_few}
 use Rattle.banks.specs.JoinedPlaces.{carried, InFirst, InSecond, InNeither, Stands, Placed}
-use Rattle.banks.proofs.Reading.{rest_length, at_none, rest_none}
+use Rattle.banks.proofs.Reading.{rest_length, rest_none}
 
 pub both_few : (cs ds : List Channel) → length cs + length ds ≤ 8 → both cs ds ≡ cs ++ ds
 both_few cs ds h = rw (le-leb (length cs + length ds) 8 h)
-
-pub both_many : (cs ds : List Channel) → 8 < length cs + length ds → both cs ds ≡ []
-both_many cs ds h = rw (lt-leb (length cs + length ds) 8 h)
 
 pub both_count : (cs ds : List Channel) → length (both cs ds) ≡ joined_count (length cs) (length ds)
 both_count cs ds = counted (leb (length cs + length ds) 8) where
@@ -83,9 +78,9 @@ module _ (cs ds : List Channel) (k : ℕ) where
   in_neither : (e : BankFault) → joined_count (length cs) (length ds) ≤ k → e ≡ NoSuchChannel k → InNeither cs ds k e
   in_neither e h q =
       let past : length (both cs ds) ≤ k = rw (both_count cs ds) h in
-      record { none = at_none k (both cs ds) past; leaves = rest_none k (both cs ds) past; refused = q }
+      record { none = slice_get_past (both cs ds) k past; leaves = rest_none k (both cs ds) past; refused = q }
 
-  pub placed : (p : Result Place BankFault) → Stands (length cs) (length ds) k p → Placed cs ds k p
-  placed (Ok First) s = in_first s.0 s.1
-  placed (Ok (Second j)) s = in_second j s.0 s.1
+  pub placed : (p : Result (Option ℕ) BankFault) → Stands (length cs) (length ds) k p → Placed cs ds k p
+  placed (Ok None) s = in_first s.0 s.1
+  placed (Ok (Some j)) s = in_second j s.0 s.1
   placed (Err e) s = in_neither e s.0 s.1

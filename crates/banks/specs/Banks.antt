@@ -1,5 +1,6 @@
 -- A bank as the list of its channels: what one channel tells, answers when it is read, and leaves. Assumes nothing.
 use Rattle.std.specs.Prelude.{◌≡◌, ℕ, zero, suc, List, [], ◌∷◌, Some, None, Ok, Err, Option, Result}
+use Rattle.std.specs.List.{AllByRecursion, slice_get}
 use Rattle.heads.specs.declared.faults.HeadFault.{HeadFault}
 use Rattle.heads.specs.declared.plates.Figures.{Figures}
 use Rattle.heads.specs.Answers.{answer_of, rest}
@@ -10,9 +11,7 @@ use Rattle.banks.specs.declared.faults.BankFault.TheVariants.{NoSuchChannel, Ref
 
 -- channel k, where there is one
 abbrev pub channel_at : (k : ℕ) → List Channel → Option Channel
-channel_at k [] = None
-channel_at zero (c ∷ cs) = Some c
-channel_at (suc k) (c ∷ cs) = channel_at k cs
+channel_at k cs = slice_get cs k
 
 -- the figures that channel k tells
 abbrev pub told_by : (k : ℕ) → Option Channel → Result Figures BankFault
@@ -52,8 +51,7 @@ pub record BankReads (cs : List Channel) (k : ℕ) (r : Result ℕ BankFault) (d
 
 -- the laws of a head hold of every channel
 abbrev pub AllLawful : List Channel → Type 0
-AllLawful [] = Unit {0}
-AllLawful (c ∷ cs) = Lawful c.figures c.waits × AllLawful cs
+AllLawful cs = AllByRecursion (λ c. Lawful c.figures c.waits) cs
 
 abbrev pub BankLaws : {S : Type 0} → (channels : S → List Channel) → Type 0
 BankLaws {S} channels = (s : S) → AllLawful (channels s)

@@ -1,12 +1,13 @@
 -- A joined bank keeps the laws of a bank. Assumes nothing.
-use Rattle.std.specs.Prelude.{◌+◌, Bool, true, false, List, [], ◌∷◌, ◌++◌, length, nat_le}
+use Rattle.std.specs.Prelude.{◌+◌, Bool, true, false, List, ◌++◌, length, nat_le}
+use Rattle.std.proofs.ByRecursion.{All-append}
 use Rattle.heads.specs.Channels.{Channel}
+use Rattle.heads.specs.Laws.{Lawful}
 use Rattle.banks.specs.Banks.{AllLawful}
 use Rattle.banks.specs.JoinedBanks.{both, if_few}
 
 lawful_append : (cs ds : List Channel) → AllLawful cs → AllLawful ds → AllLawful (cs ++ ds)
-lawful_append [] ds p q = q
-lawful_append (c ∷ cs) ds p q = (p.0, lawful_append cs ds p.1 q)
+lawful_append cs ds p q = All-append (λ (c : Channel). Lawful c.figures c.waits) cs ds p q
 
 lawful_if_few : (t : Bool) (cs : List Channel) → AllLawful cs → AllLawful (if_few t cs)
 lawful_if_few true cs p = p

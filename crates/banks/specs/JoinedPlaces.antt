@@ -1,18 +1,16 @@
 -- Where a channel of two joined banks stands, and how their lists are one there. Assumes nothing.
-use Rattle.std.specs.Prelude.{◌≡◌, ℕ, ◌+◌, ◌<◌, ◌≤◌, List, None, Ok, Err, Result}
+use Rattle.std.specs.Prelude.{◌≡◌, ℕ, ◌+◌, ◌<◌, ◌≤◌, List, Some, None, Ok, Err, Option, Result}
 use Rattle.heads.specs.Channels.{Channel}
 use Rattle.banks.specs.declared.faults.BankFault.{BankFault}
 use Rattle.banks.specs.declared.faults.BankFault.TheVariants.{NoSuchChannel}
-use Rattle.banks.specs.declared.joined_banks.Place.{Place}
-use Rattle.banks.specs.declared.joined_banks.Place.TheVariants.{First, Second}
 use Rattle.banks.specs.Faults.{at_channel}
 use Rattle.banks.specs.Banks.{channel_at, channel_figures, channel_answer, channel_rest}
 use Rattle.banks.specs.JoinedBanks.{both, joined_count}
 
--- where channel k of banks of m and n channels stands, or that there is none
-abbrev pub Stands : (m n k : ℕ) → Result Place BankFault → Type 0
-Stands m n k (Ok First) = (m + n ≤ 8) × (k < m)
-Stands m n k (Ok (Second j)) = (m + n ≤ 8) × (m + j ≡ k)
+-- where channel k of banks of m and n channels stands: in the first, or as which channel of the second; or that there is none
+abbrev pub Stands : (m n k : ℕ) → Result (Option ℕ) BankFault → Type 0
+Stands m n k (Ok None) = (m + n ≤ 8) × (k < m)
+Stands m n k (Ok (Some j)) = (m + n ≤ 8) × (m + j ≡ k)
 Stands m n k (Err e) = (joined_count m n ≤ k) × (e ≡ NoSuchChannel k)
 
 -- an answer carried to channel k
@@ -38,7 +36,7 @@ pub record InNeither (cs ds : List Channel) (k : ℕ) (e : BankFault) : Type 0 w
   pub leaves : channel_rest k (both cs ds) ≡ both cs ds
   pub refused : e ≡ NoSuchChannel k
 
-abbrev pub Placed : (cs ds : List Channel) (k : ℕ) → Result Place BankFault → Type 0
-Placed cs ds k (Ok First) = InFirst cs ds k
-Placed cs ds k (Ok (Second j)) = InSecond cs ds k j
+abbrev pub Placed : (cs ds : List Channel) (k : ℕ) → Result (Option ℕ) BankFault → Type 0
+Placed cs ds k (Ok None) = InFirst cs ds k
+Placed cs ds k (Ok (Some j)) = InSecond cs ds k j
 Placed cs ds k (Err e) = InNeither cs ds k e

@@ -34,18 +34,18 @@ impl BankFault {
             BankFault::Refused { fault, .. } => BankFault::Refused { channel, fault },
         }
     }
+}
 
-    /// The refusal as a record.
-    pub fn fault(self) -> Fault
-        ensures { result ≡ bank_fault self }
-    {
-        match self {
+/// The refusal as a record.
+impl From<BankFault> for Fault {
+    ghost from_gives = { λ e f. f ≡ bank_fault e };
+
+    fn from(refusal: BankFault) -> Fault {
+        match refusal {
             BankFault::NoSuchChannel { channel } => Fault {
                 code: 23,
                 channel,
-                depth: 0,
-                first: 0,
-                second: 0,
+                ..Fault::default()
             },
             BankFault::Refused { channel, fault } => fault.fault(channel),
         }

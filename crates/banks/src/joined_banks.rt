@@ -19,12 +19,6 @@ pub struct Joined<A, B> {
     second: B,
 }
 
-// In which of the two banks a channel stands, and under which number there.
-enum Place {
-    First,
-    Second { own: usize },
-}
-
 // How many channels banks of these counts have as one; a sum past the greatest number is above the limit.
 fn together(first: usize, second: usize) -> usize
     ensures { result ≡ joined_count first second }
@@ -33,36 +27,29 @@ fn together(first: usize, second: usize) -> usize
     if total <= LIMIT { total } else { 0 }
 }
 
-fn place_by_counts(first: usize, second: usize, channel: usize) -> Result<Place, BankFault>
+// The second bank's own number of a channel of both; None of a channel that is the first's.
+fn own_number(first: usize, second: usize, channel: usize) -> Result<Option<usize>, BankFault>
     ensures { Stands first second channel result }
 {
     if channel >= together(first, second) {
-        Err(BankFault::NoSuchChannel { channel })
-    } else if channel < first {
-        Ok(Place::First)
-    } else {
-        Ok(Place::Second {
-            own: channel - first,
-        })
+        return Err(BankFault::NoSuchChannel { channel });
     }
+    Ok(channel.checked_sub(first))
 }
 
 // What one of the two banks answered, with the channel's number in both.
 fn numbered<T>(answer: Result<T, BankFault>, channel: usize) -> Result<T, BankFault>
     ensures { result ≡ carried channel answer }
 {
-    match answer {
-        Ok(told) => Ok(told),
-        Err(fault) => Err(fault.at(channel)),
-    }
+    answer.map_err(|fault| fault.at(channel))
 }
 
 impl<A: Bank, B: Bank> Joined<A, B> {
-    // Where a channel stands, and how the two lists of channels are one there.
-    fn place(&self, channel: usize) -> Result<Place, BankFault>
+    // The second bank's own number of a channel, and how the two lists of channels are one there.
+    fn place(&self, channel: usize) -> Result<Option<usize>, BankFault>
         ensures { Placed (A.Bank.channels self.now.first) (B.Bank.channels self.now.second) channel result }
     {
-        place_by_counts(self.first.count(), self.second.count(), channel)
+        own_number(self.first.count(), self.second.count(), channel)
     }
 }
 
@@ -77,15 +64,15 @@ impl<A: Bank, B: Bank> Bank for Joined<A, B> {
 
     fn figures(&self, channel: usize) -> Result<Figures, BankFault> {
         match self.place(channel)? {
-            Place::First => self.first.figures(channel),
-            Place::Second { own } => numbered(self.second.figures(own), channel),
+            None => self.first.figures(channel),
+            Some(own) => numbered(self.second.figures(own), channel),
         }
     }
 
     fn read(&mut self, channel: usize) -> Result<u32, BankFault> {
         match self.place(channel)? {
-            Place::First => self.first.read(channel),
-            Place::Second { own } => numbered(self.second.read(own), channel),
+            None => self.first.read(channel),
+            Some(own) => numbered(self.second.read(own), channel),
         }
     }
 }

@@ -17,6 +17,7 @@ pub use one_read::read_one;
 mod tests {
     use super::*;
     use heads::{EncoderTrack, Head, HeadFault, PhaseTable};
+    use records::Fault;
 
     type Two = Joined<Lone<EncoderTrack>, Lone<EncoderTrack>>;
 
@@ -60,6 +61,6 @@ mod tests {
         assert_eq!(rt; bank.read(2), Err(BankFault::NoSuchChannel { channel: 2 }));
         assert_eq!(rt; bank.read(0), Ok(19));
         assert_eq!(rt; bank.read(1), Ok(36));
-        assert_eq!(rt; wild.fault().channel, 1);
+        assert_eq!(rt; Fault::from(wild).channel, 1);
     }
 }

@@ -18,15 +18,17 @@
 //   refused 16 channel 0 depth 0 figures 3 1
 #![tactic(auto)]
 
-ghost use Rattle.std.specs.Prelude.{◌<◌, length, IfSome};
-
+use records::Fault;
 use settings::Setting;
-use std::alloc::{AllocError, Global};
+use std::alloc::Global;
 use std::io::{BufRead, BufReader};
+use std::str::FromStr;
 use std::{fmt, io, str};
 use tables::{
-    BadText, Desk, Part, Reply, first_word, number, part_of, refusal_record, unfolding_line,
+    BadText, Desk, Part, RefusalRecord, Reply, Spaced, UnfoldingLine, Words, first_word, number,
+    part_of,
 };
+use unfolding::Unfolding;
 
 /// How far a case is.
 #[derive(Clone, Copy)]
@@ -37,127 +39,105 @@ enum Stage {
     Done,
 }
 
-/// What a line of a case comes to.
-#[derive(Drop)]
-enum Outcome {
-    Silent,
-    Says(String),
-    Ends(String),
+/// What a line of a case tells.
+#[derive(Clone, Copy)]
+enum Told {
+    Setting(Setting),
+    Remainder(u32),
+    Row(Unfolding),
+    Refused(Fault),
 }
 
-/// The moduli of a setting, each after a space.
+/// What ends a case before its last line, or at its end.
 #[derive(Clone, Copy)]
-struct Spaced<'a>(&'a [u32]);
+enum End {
+    BadCase,
+    BadText { line: u64, bad: BadText },
+    Refused(Fault),
+}
 
-impl fmt::Display for Spaced<'_> {
+impl fmt::Display for Told {
     fn fmt<W: fmt::Write>(&self, f: &mut fmt::Formatter<W>) -> fmt::Result {
-        for n in self.0 {
-            write!(f, " {n}")?;
+        match self {
+            Told::Setting(setting) => {
+                let unit = setting.unit();
+                let range = setting.range();
+                let moduli = Spaced(setting.moduli());
+                write!(f, "setting unit {unit} range {range} moduli{moduli}")
+            }
+            Told::Remainder(rest) => write!(f, "remainder {rest}"),
+            Told::Row(found) => UnfoldingLine(found).fmt(f),
+            Told::Refused(fault) => RefusalRecord(*fault).fmt(f),
         }
-        Ok(())
     }
 }
 
-fn bad_text(heap: Global, line: u64, bad: BadText) -> Result<String, AllocError> {
-    format!(in heap; "bad text at line {line}: {bad}")
+impl fmt::Display for End {
+    fn fmt<W: fmt::Write>(&self, f: &mut fmt::Formatter<W>) -> fmt::Result {
+        match self {
+            End::BadCase => f.write_str("bad case"),
+            End::BadText { line, bad } => write!(f, "bad text at line {line}: {bad}"),
+            End::Refused(fault) => RefusalRecord(*fault).fmt(f),
+        }
+    }
 }
 
 /// A line of a table.
-fn table_line(
-    heap: Global,
-    desk: &mut Desk,
-    line: u64,
-    text: &[u8],
-) -> Result<Outcome, AllocError> {
-    let reply = match desk.line(text) {
-        Ok(reply) => reply,
-        Err(bad) => return Ok(Outcome::Ends(bad_text(heap, line, bad)?)),
-    };
-    Ok(match reply {
-        Reply::Nothing => Outcome::Silent,
-        Reply::Refused(refusal) => Outcome::Ends(refusal_record(heap, refusal.fault())?),
-        Reply::Row(row) => Outcome::Says(match row {
-            Ok(found) => unfolding_line(heap, &found)?,
-            Err(refusal) => refusal_record(heap, refusal.fault())?,
-        }),
-    })
-}
-
-/// The number that the first word writes, and what stands after it.
-fn first_number(text: &[u8]) -> Option<(u32, &[u8])>
-    ensures { IfSome result (λ p. length p.1.now < length text.now) }
-{
-    let (word, rest) = first_word(text)?;
-    Some((number(word).ok()?, rest))
+fn table_line(desk: &mut Desk, line: u64, text: &[u8]) -> Result<Option<Told>, End> {
+    match desk.line(text).map_err(|bad| End::BadText { line, bad })? {
+        Reply::Nothing => Ok(None),
+        Reply::Refused(refusal) => Err(End::Refused(refusal.into())),
+        Reply::Row(Ok(found)) => Ok(Some(Told::Row(found))),
+        Reply::Row(Err(refusal)) => Ok(Some(Told::Refused(refusal.into()))),
+    }
 }
 
 /// The unit of a line `unit U factors ..`, with its factors in `factors`.
 fn read_unit(text: &[u8], factors: &mut Vec<u32>) -> Option<u32> {
-    let (_, rest) = first_word(text)?;
-    let (unit, rest) = first_number(rest)?;
-    let (word, mut rest) = first_word(rest)?;
-    if word != b"factors".as_slice() {
+    let mut words = Words::new(text).skip(1);
+    let unit = number(words.next()?).ok()?;
+    let Some(b"factors") = words.next() else {
         return None;
+    };
+    for word in words {
+        factors.push(number(word).ok()?).ok()?;
     }
-    while let Some((factor, after)) = first_number(rest) {
-        factors.push(factor).ok()?;
-        rest = after;
-    }
-    if first_word(rest).is_none() {
-        Some(unit)
-    } else {
-        None
-    }
+    Some(unit)
+}
+
+/// What a word writes.
+fn parsed<T: FromStr>(word: &[u8]) -> Option<T>
+where
+    T::Err: Drop,
+{
+    str::from_utf8(word).ok()?.parse().ok()
 }
 
 /// The position and channel of a line `remainder N K`.
 fn read_remainder(text: &[u8]) -> Option<(u64, usize)> {
-    let (word, rest) = first_word(text)?;
-    if word != b"remainder".as_slice() {
+    let mut words = Words::new(text);
+    let Some(b"remainder") = words.next() else {
         return None;
-    }
-    let (position, rest) = first_word(rest)?;
-    let (channel, rest) = first_word(rest)?;
-    if first_word(rest).is_some() {
-        return None;
-    }
-    let position = str::from_utf8(position).ok()?.parse::<u64>().ok()?;
-    let channel = str::from_utf8(channel).ok()?.parse::<usize>().ok()?;
-    Some((position, channel))
+    };
+    let position = parsed(words.next()?)?;
+    let channel = parsed(words.next()?)?;
+    words.next().is_none().then_some((position, channel))
 }
 
-/// The line that begins a unit case: the setting that it makes, if any, and what it prints.
-fn unit_line(heap: Global, text: &[u8]) -> Result<(Stage, Outcome), AllocError> {
+/// The setting that the line which begins a unit case makes.
+fn unit_line(heap: Global, text: &[u8]) -> Result<Setting, End> {
     let mut factors = Vec::new(heap);
-    let Some(unit) = read_unit(text, &mut factors) else {
-        return Ok((
-            Stage::Done,
-            Outcome::Ends(String::from_str(heap, "bad case")?),
-        ));
-    };
-    match Setting::new(unit, factors.as_slice()) {
-        Err(refusal) => Ok((
-            Stage::Done,
-            Outcome::Ends(refusal_record(heap, refusal.fault())?),
-        )),
-        Ok(setting) => {
-            let range = setting.range();
-            let moduli = Spaced(setting.moduli());
-            let told = format!(in heap; "setting unit {unit} range {range} moduli{moduli}")?;
-            Ok((Stage::Unit(setting), Outcome::Says(told)))
-        }
-    }
+    let unit = read_unit(text, &mut factors).ok_or(End::BadCase)?;
+    Setting::new(unit, &factors).map_err(|refusal| End::Refused(refusal.into()))
 }
 
 /// A line `remainder N K`.
-fn remainder_line(heap: Global, setting: &Setting, text: &[u8]) -> Result<Outcome, AllocError> {
-    let Some((position, channel)) = read_remainder(text) else {
-        return Ok(Outcome::Ends(String::from_str(heap, "bad case")?));
-    };
-    Ok(Outcome::Says(match setting.remainder(position, channel) {
-        Ok(rest) => format!(in heap; "remainder {rest}")?,
-        Err(refusal) => refusal_record(heap, refusal.fault())?,
-    }))
+fn remainder_line(setting: &Setting, text: &[u8]) -> Result<Told, End> {
+    let (position, channel) = read_remainder(text).ok_or(End::BadCase)?;
+    Ok(match setting.remainder(position, channel) {
+        Ok(rest) => Told::Remainder(rest),
+        Err(refusal) => Told::Refused(refusal.into()),
+    })
 }
 
 /// A case as it is read.
@@ -177,54 +157,35 @@ impl Case {
         }
     }
 
-    /// What the next line of the case comes to.
-    fn line(&mut self, heap: Global, text: &[u8]) -> Result<Outcome, AllocError> {
+    /// What the next line of the case tells, if anything.
+    fn line(&mut self, heap: Global, text: &[u8]) -> Result<Option<Told>, End> {
         self.lines = self.lines.saturating_add(1);
-        if let Part::Passed = part_of(text) {
-            return Ok(Outcome::Silent);
+        if part_of(text) == Part::Passed {
+            return Ok(None);
         }
+        match (self.stage, first_word(text)) {
+            (Stage::Done, _) => Ok(None),
+            (Stage::Unit(setting), _) => remainder_line(&setting, text).map(Some),
+            (Stage::Fresh, Some((b"unit", _))) => {
+                let setting = unit_line(heap, text)?;
+                self.stage = Stage::Unit(setting);
+                Ok(Some(Told::Setting(setting)))
+            }
+            (Stage::Fresh | Stage::Table, _) => {
+                self.stage = Stage::Table;
+                table_line(&mut self.desk, self.lines, text)
+            }
+        }
+    }
+
+    /// Whether the case may end here.
+    fn end(&self) -> Result<(), End> {
         match self.stage {
-            Stage::Done => Ok(Outcome::Silent),
-            Stage::Unit(setting) => remainder_line(heap, &setting, text),
-            Stage::Table => table_line(heap, &mut self.desk, self.lines, text),
-            Stage::Fresh => match first_word(text) {
-                Some((b"unit", _)) => {
-                    let (stage, outcome) = unit_line(heap, text)?;
-                    self.stage = stage;
-                    Ok(outcome)
-                }
-                _ => {
-                    self.stage = Stage::Table;
-                    table_line(heap, &mut self.desk, self.lines, text)
-                }
-            },
-        }
-    }
-
-    /// What the end of the case comes to.
-    fn end(&self, heap: Global) -> Result<Outcome, AllocError> {
-        match (self.stage, self.desk.end()) {
-            (Stage::Fresh | Stage::Table, Err(bad)) => Ok(Outcome::Ends(bad_text(
-                heap,
-                self.lines.saturating_add(1),
+            Stage::Fresh | Stage::Table => self.desk.end().map_err(|bad| End::BadText {
+                line: self.lines.saturating_add(1),
                 bad,
-            )?)),
-            _ => Ok(Outcome::Silent),
-        }
-    }
-}
-
-/// Prints what a line came to, and says whether the case goes on.
-fn tell(rt: &HostRuntime, outcome: Outcome) -> io::Result<bool> {
-    match outcome {
-        Outcome::Silent => Ok(true),
-        Outcome::Says(text) => {
-            rt.println(text)?;
-            Ok(true)
-        }
-        Outcome::Ends(text) => {
-            rt.println(text)?;
-            Ok(false)
+            }),
+            Stage::Unit(_) | Stage::Done => Ok(()),
         }
     }
 }
@@ -237,13 +198,22 @@ fn main(rt: HostRuntime) -> io::Result<()> {
         let line = line?;
         let text = line.as_slice();
         if text.starts_with(b"== ") {
-            tell(&rt, case.end(heap)?)?;
+            case.end().or_else(|end| rt.println(end))?;
             case = Case::new(heap);
             rt.println(str::from_utf8(text).unwrap_or("== ?"))?;
-        } else if !tell(&rt, case.line(heap, text)?)? {
-            case.stage = Stage::Done;
+            continue;
+        }
+        match case.line(heap, text) {
+            Ok(told) => {
+                if let Some(told) = told {
+                    rt.println(told)?;
+                }
+            }
+            Err(end) => {
+                rt.println(end)?;
+                case.stage = Stage::Done;
+            }
         }
     }
-    tell(&rt, case.end(heap)?)?;
-    Ok(())
+    case.end().or_else(|end| rt.println(end))
 }

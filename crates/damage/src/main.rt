@@ -12,126 +12,130 @@
 use encoding::write;
 use recordings::{ChannelEntry, Recording};
 use records::Fault;
-use std::io;
+use std::ops::Range;
+use std::{fmt, io};
 
 /// Behind the recording the buffer holds this byte.
 const FREE: u8 = 238;
 
-/// The bytes in base ten.
-fn print_bytes(rt: &HostRuntime, bytes: &[u8]) -> io::Result<()> {
-    print!(rt; "bytes")?;
-    for byte in bytes {
-        print!(rt; " {byte}")?;
+/// Where the entries stand in the recording.
+const ENTRIES: Range<usize> = 41..65;
+
+/// Where its last 16 bytes stand.
+const ENDING: Range<usize> = 65..81;
+
+/// Bytes in base ten.
+#[derive(Clone, Copy)]
+struct Bytes<'a>(&'a [u8]);
+
+impl fmt::Display for Bytes<'_> {
+    fn fmt<W: fmt::Write>(&self, f: &mut fmt::Formatter<W>) -> fmt::Result {
+        f.write_str("bytes")?;
+        for byte in self.0 {
+            write!(f, " {byte}")?;
+        }
+        Ok(())
     }
-    println!(rt; "")
 }
 
 /// The numbers of a row, each after a space.
-fn print_row(rt: &HostRuntime, recording: &Recording, row: usize) -> io::Result<()> {
-    for channel in 0..recording.channel_count() {
-        match recording.number(row, channel) {
-            Some(number) => print!(rt; " {number}")?,
-            None => print!(rt; " none")?,
-        }
-    }
-    Ok(())
+#[derive(Clone, Copy)]
+struct Row<'a> {
+    recording: Recording<'a>,
+    row: usize,
 }
 
-/// A refusal.
-fn print_fault(rt: &HostRuntime, fault: Fault) -> io::Result<()> {
-    let code = fault.code;
-    let channel = fault.channel;
-    let depth = fault.depth;
-    print!(rt; "refused {code} channel {channel} depth {depth}")
+impl fmt::Display for Row<'_> {
+    fn fmt<W: fmt::Write>(&self, f: &mut fmt::Formatter<W>) -> fmt::Result {
+        let channels = 0..self.recording.channel_count();
+        for number in channels.map(|channel| self.recording.number(self.row, channel)) {
+            match number {
+                Some(number) => write!(f, " {number}")?,
+                None => f.write_str(" none")?,
+            }
+        }
+        Ok(())
+    }
 }
 
 /// What the check says of these bytes.
-fn tell(rt: &HostRuntime, bytes: &[u8]) -> io::Result<()> {
-    match Recording::check(bytes) {
-        Ok(recording) => {
-            let note = recording.note().len();
-            let rows = recording.row_count();
-            let channels = recording.channel_count();
-            print!(rt; "note {note} rows {rows} channels {channels}")?;
-            if rows > 0 {
-                print!(rt; " last")?;
-                print_row(rt, &recording, rows - 1)?;
+#[derive(Clone, Copy)]
+struct Checked<'a>(&'a [u8]);
+
+impl fmt::Display for Checked<'_> {
+    fn fmt<W: fmt::Write>(&self, f: &mut fmt::Formatter<W>) -> fmt::Result {
+        match Recording::check(self.0) {
+            Ok(recording) => {
+                let note = recording.note().len();
+                let rows = recording.row_count();
+                let channels = recording.channel_count();
+                write!(f, "note {note} rows {rows} channels {channels}")?;
+                if let Some(row) = rows.checked_sub(1) {
+                    write!(f, " last{}", Row { recording, row })?;
+                }
+                Ok(())
             }
-            println!(rt; "")
-        }
-        Err(refusal) => {
-            print_fault(rt, refusal.fault())?;
-            println!(rt; "")
+            Err(refusal) => write!(f, "{}", Fault::from(refusal)),
         }
     }
 }
 
 /// All that a recording tells.
 fn tell_whole(rt: &HostRuntime, bytes: &[u8]) -> io::Result<()> {
-    if let Ok(recording) = Recording::check(bytes) {
-        print!(rt; "note ")?;
-        print_bytes(rt, recording.note())?;
-        for channel in 0..recording.channel_count() {
-            if let Some(entry) = recording.entry(channel) {
-                let modulus = entry.modulus;
-                let bound = entry.bound;
-                println!(rt; "channel {channel} modulus {modulus} bound {bound}")?;
-            }
-        }
-        // One row more than there are.
-        for row in 0..recording.row_count().saturating_add(1) {
-            print!(rt; "row {row}")?;
-            print_row(rt, &recording, row)?;
-            println!(rt; "")?;
-        }
+    let Ok(recording) = Recording::check(bytes) else {
+        return Ok(());
+    };
+    println!(rt; "note {}", Bytes(recording.note()))?;
+    let channels = 0..recording.channel_count();
+    for (channel, entry) in channels.filter_map(|k| recording.entry(k)).enumerate() {
+        let ChannelEntry { modulus, bound } = entry;
+        println!(rt; "channel {channel} modulus {modulus} bound {bound}")?;
+    }
+    // One row more than there are.
+    for row in 0..=recording.row_count() {
+        println!(rt; "row {row}{}", Row { recording, row })?;
     }
     Ok(())
 }
 
 /// Every front part of the bytes.
 fn cut_short(rt: &HostRuntime, bytes: &[u8]) -> io::Result<()> {
+    // A plain count: it is printed, and a slice has no iterator over its front parts.
     for count in 0..bytes.len() {
-        print!(rt; "first {count}: ")?;
-        tell(rt, &bytes[0..count])?;
+        println!(rt; "first {count}: {}", Checked(&bytes[..count]))?;
     }
     Ok(())
 }
 
 /// The bytes with one of them changed to each of these values in turn; it is put back.
 fn change(rt: &HostRuntime, bytes: &mut [u8], place: usize, values: &[u8]) -> io::Result<()> {
-    if place >= bytes.len() {
+    let Some(&kept) = bytes.get(place) else {
         return Ok(());
-    }
-    let kept = bytes[place];
-    for value in values {
-        bytes[place] = *value;
-        print!(rt; "byte {place} is {value}: ")?;
-        tell(rt, bytes)?;
+    };
+    for &value in values {
+        bytes[place] = value;
+        println!(rt; "byte {place} is {value}: {}", Checked(bytes))?;
     }
     bytes[place] = kept;
     Ok(())
 }
 
-/// Each byte of the entries and of the ending changed.
-fn change_each(rt: &HostRuntime, bytes: &mut [u8]) -> io::Result<()> {
-    for place in 41..65 {
-        change(rt, bytes, place, &[0, 255])?;
-    }
-    for place in 65..81 {
-        change(rt, bytes, place, &[0, 1, 2, 3, 8, 9, 128, 255])?;
+/// The bytes with each of those in these places changed.
+fn change_each(
+    rt: &HostRuntime,
+    bytes: &mut [u8],
+    places: Range<usize>,
+    values: &[u8],
+) -> io::Result<()> {
+    for place in places {
+        change(rt, bytes, place, values)?;
     }
     Ok(())
 }
 
 /// How many of the bytes are free.
 fn count_free(bytes: &[u8]) -> usize {
-    let mut count: usize = 0;
-    for byte in bytes {
-        if *byte == FREE {
-            count += 1;
-        }
-    }
-    count
+    bytes.iter().filter(|&&byte| byte == FREE).count()
 }
 
 /// What the writer says when it has this room, and how many of its bytes are free then.
@@ -144,7 +148,7 @@ fn try_write(
 ) -> io::Result<()> {
     match write(room, note, rows, entries) {
         Ok(length) => print!(rt; "wrote {length}")?,
-        Err(refusal) => print_fault(rt, refusal.fault())?,
+        Err(refusal) => print!(rt; "{}", Fault::from(refusal))?,
     }
     let free = count_free(room);
     println!(rt; ", {free} bytes free")
@@ -194,13 +198,12 @@ fn main(rt: HostRuntime) -> io::Result<()> {
     let rows = [19, 36, 37, 19, 4294967295, 37, 30, 40, 4294967294];
     let note = b"lab 7";
     let mut room = [FREE; 84];
-    let length = match write(&mut room, note, &rows, &entries) {
-        Ok(length) => length,
-        Err(_) => 0,
-    };
-    print_bytes(&rt, &room)?;
-    tell_whole(&rt, &room[0..length])?;
-    cut_short(&rt, &room[0..length])?;
-    change_each(&rt, &mut room[0..length])?;
+    let length = write(&mut room, note, &rows, &entries).unwrap_or(0);
+    println!(rt; "{}", Bytes(&room))?;
+    tell_whole(&rt, &room[..length])?;
+    cut_short(&rt, &room[..length])?;
+    let recording = &mut room[..length];
+    change_each(&rt, recording, ENTRIES, &[0, 255])?;
+    change_each(&rt, recording, ENDING, &[0, 1, 2, 3, 8, 9, 128, 255])?;
     try_writes(&rt, note, &rows, &entries)
 }

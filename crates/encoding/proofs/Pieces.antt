@@ -3,8 +3,8 @@ use Rattle.std.proofs.Common.{◌≡◌, ℕ, ◌+◌, ◌<◌, ◌≤◌, List,
 use borrow.Rule.Slice.PartMut.{put_mid, post_of}
 use Rattle.std.specs.List.{flat_map}
 use Rattle.std.proofs.lemmas.List.{append_assoc, drop-drop, take_at, drop_at, take_more, take_all, flat_map_more}
+use Rattle.std.proofs.lemmas.List.Concat.{flat_map-append}
 use Rattle.std.proofs.lemmas.Slice.{take-put_mid}
-use Rattle.recordings.proofs.Words.{joined_append}
 
 -- a loop that writes the bytes of one item after another: one more item
 pub part_more : {X : Type 0} (f : X → List ℕ) (i : ℕ) (ws : List X) (d : X) (a m n : ℕ) (xs ys : List ℕ) → i < length ws → a ≤ length xs → n ≡ a + length ys → ys ≡ f (get_or ws i d) → take a xs ≡ flat_map f (take i ws) → take n (put_mid a m xs ys) ≡ flat_map f (take (i + 1) ws)
@@ -40,4 +40,4 @@ four_parts a b c d k₀ k₁ k₂ k₃ out p ys zs ws e0 lp ly eb lz ec lw ed =
 -- item by item, or all numbers at once
 pub joined_twice : {X : Type 0} (f : ℕ → List ℕ) (g : X → List ℕ) (ws : List X) → flat_map (λ w. flat_map f (g w)) ws ≡ flat_map f (flat_map g ws)
 joined_twice f g [] = refl
-joined_twice f g (w ∷ ws) = ap (λ z. flat_map f (g w) ++ z) (joined_twice f g ws) ∙ sym (joined_append f (g w) (flat_map g ws))
+joined_twice f g (w ∷ ws) = ap (λ z. flat_map f (g w) ++ z) (joined_twice f g ws) ∙ sym (flat_map-append f (g w) (flat_map g ws))

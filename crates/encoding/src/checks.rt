@@ -1,73 +1,54 @@
 // The writer's checks, in their order.
-ghost use Rattle.std.specs.Prelude.{◌≡◌, ℕ, ◌+◌, ◌*◌, ◌%◌, ◌^◌, ◌<◌, ◌≤◌, ◌&&◌, length, MatchOption, MatchResult, ◌==◌, nat_le};
-ghost use Rattle.encoding.specs.Refusals.{Counted, FitAt, UnfitFirst, WriteRefused};
+ghost use Rattle.std.specs.Prelude.{ℕ, ◌<◌, ◌↔◌, length, IsTrue, MatchOption, MatchResult};
+ghost use Rattle.encoding.specs.Refusals.{FitAt, FitsIn, UnfitFirst, WriteRefused};
 ghost use Rattle.encoding.specs.Writing.{AllPass};
 
 use crate::WriteRefusal;
+use crate::contents::Contents;
 use heads::fitness;
-use recordings::ChannelEntry;
-
-/// That there are 1 to 8 entries.
-fn check_count(entries: &[ChannelEntry]) -> Result<(), WriteRefusal>
-    ensures { MatchResult result (λ _. Counted entries.now) (λ e. (e ≡ WriteRefusal.Channels) × (Counted entries.now → ⊥)) }
-{
-    if entries.len() < 1 || entries.len() > 8 {
-        return Err(WriteRefusal::Channels);
-    }
-    Ok(())
-}
-
-/// Whether so many numbers are whole rows of so many channels.
-fn is_whole(numbers: usize, channels: usize) -> bool
-    requires { 1 ≤ channels }
-    ensures { result ≡ (numbers % channels == 0) }
-{
-    numbers % channels == 0
-}
+use recordings::{ChannelEntry, ENDING_BYTES, ENTRY_BYTES, NUMBER_BYTES};
 
 /// The lowest channel whose entry is unfit.
+// No one function with the recordings' search: that decodes each entry from its bytes, and these are at hand.
 fn first_unfit(entries: &[ChannelEntry]) -> Option<usize>
     ensures { MatchOption result ((k : ℕ) → k < length entries.now → FitAt entries.now k) (UnfitFirst entries.now) }
 {
-    for (channel, entry) in entries.iter().enumerate() {
-        if !fitness(entry.modulus, entry.bound) {
-            return Some(channel);
+    entries
+        .iter()
+        .position(|entry| !fitness(entry.modulus, entry.bound))
+}
+
+impl Contents<'_> {
+    /// Whether the recording fits in this room, and in 2^31 bytes.
+    fn fits_in(&self, room: usize) -> bool
+        ensures { IsTrue result ↔ FitsIn room self.now.note.now self.now.rows.now self.now.entries.now }
+    {
+        // A sum that would wrap stays at the greatest number, which is above 2^31.
+        let bytes = self
+            .note
+            .len()
+            .saturating_add(NUMBER_BYTES * self.rows.len())
+            .saturating_add(ENTRY_BYTES * self.entries.len() + ENDING_BYTES);
+        bytes <= room && bytes <= 1 << 31
+    }
+
+    /// That these can be written into this room.
+    #[tactic(auto, using(crate::proofs::Passing::all_fit))]
+    pub(crate) fn check(&self, room: usize) -> Result<(), WriteRefusal>
+        ensures { MatchResult result (λ _. AllPass room self.now.note.now self.now.rows.now self.now.entries.now) (WriteRefused room self.now.note.now self.now.rows.now self.now.entries.now) }
+    {
+        if !(1..=8).contains(&self.entries.len()) {
+            return Err(WriteRefusal::Channels);
         }
+        if self.rows.len() % self.entries.len() != 0 {
+            return Err(WriteRefusal::Rows);
+        }
+        if let Some(channel) = first_unfit(self.entries) {
+            return Err(WriteRefusal::UnfitEntry { channel });
+        }
+        if !self.fits_in(room) {
+            return Err(WriteRefusal::Room);
+        }
+        Ok(())
     }
-    None
-}
-
-/// Whether a recording of so many bytes, numbers and channels fits in this room, and in 2^31 bytes.
-fn is_room(note: usize, numbers: usize, channels: usize, room: usize) -> bool
-    requires { (numbers < 2 ^ 61) × (channels ≤ 8) }
-    ensures { result ≡ (nat_le (note + 4 * numbers + 8 * channels + 16) room && nat_le (note + 4 * numbers + 8 * channels + 16) (2 ^ 31)) }
-{
-    // A sum that would wrap stays at the greatest number, which is above 2^31.
-    let bytes = note
-        .saturating_add(4 * numbers)
-        .saturating_add(8 * channels + 16);
-    bytes <= room && bytes <= 1 << 31
-}
-
-/// That these can be written into this room.
-pub(crate) fn check(
-    note: &[u8],
-    rows: &[u32],
-    entries: &[ChannelEntry],
-    room: usize,
-) -> Result<(), WriteRefusal>
-    ensures { MatchResult result (λ _. AllPass room note.now rows.now entries.now) (WriteRefused room note.now rows.now entries.now) }
-{
-    check_count(entries)?;
-    let channels = entries.len();
-    if !is_whole(rows.len(), channels) {
-        return Err(WriteRefusal::Rows);
-    }
-    if let Some(channel) = first_unfit(entries) {
-        return Err(WriteRefusal::UnfitEntry { channel });
-    }
-    if !is_room(note.len(), rows.len(), channels, room) {
-        return Err(WriteRefusal::Room);
-    }
-    Ok(())
 }

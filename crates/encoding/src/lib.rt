@@ -2,6 +2,7 @@
 #![tactic(auto)]
 
 mod checks;
+mod contents;
 mod parts;
 mod refusals;
 mod writing;

@@ -1,43 +1,46 @@
 // Numbers and entries into parts of the output.
-ghost use Rattle.std.specs.Prelude.{◌≡◌, ◌*◌, length};
+ghost use Rattle.std.specs.Prelude.{◌≡◌, ℕ, ◌*◌, List, length};
 ghost use Rattle.recordings.specs.Layout.{pair_of};
 ghost use Rattle.recordings.specs.Numbers.{bytes_of};
 ghost use Rattle.std.specs.List.{flat_map};
 
-use recordings::ChannelEntry;
+use recordings::{ChannelEntry, ENTRY_BYTES, NUMBER_BYTES};
 
-/// One number, least byte first.
-fn put_number(part: &mut [u8], number: u32)
-    requires { length part.old ≡ 4 }
-    ensures { part.new ≡ bytes_of number }
-{
-    part.copy_from_slice(&number.to_le_bytes());
+/// What stands in a recording as N bytes.
+pub(crate) trait Item<const N: usize> {
+    ghost spelled: { Self → List ℕ };
+
+    fn bytes(&self) -> [u8; N]
+        ensures { result ≡ spelled self.now };
 }
 
-/// Numbers, one after another.
-pub(crate) fn put_numbers(part: &mut [u8], numbers: &[u32])
-    requires { length part.old ≡ 4 * length numbers.now }
-    ensures { part.new ≡ flat_map bytes_of numbers.now }
-{
-    for (i, number) in numbers.iter().enumerate() {
-        put_number(&mut part[4 * i..4 * i + 4], *number);
+/// A number: least byte first.
+impl Item<NUMBER_BYTES> for u32 {
+    ghost spelled = { bytes_of };
+
+    fn bytes(&self) -> [u8; NUMBER_BYTES] {
+        self.to_le_bytes()
     }
 }
 
-/// One entry: modulus, then bound.
-fn put_entry(part: &mut [u8], entry: ChannelEntry)
-    requires { length part.old ≡ 8 }
-    ensures { part.new ≡ flat_map bytes_of (pair_of entry) }
-{
-    put_numbers(part, &[entry.modulus, entry.bound]);
+/// An entry: modulus, then bound.
+impl Item<ENTRY_BYTES> for ChannelEntry {
+    ghost spelled = { λ e. flat_map bytes_of (pair_of e) };
+
+    fn bytes(&self) -> [u8; ENTRY_BYTES] {
+        let mut bytes = [0; ENTRY_BYTES];
+        put_each(&mut bytes, &[self.modulus, self.bound]);
+        bytes
+    }
 }
 
-/// Entries, one after another.
-pub(crate) fn put_entries(part: &mut [u8], entries: &[ChannelEntry])
-    requires { length part.old ≡ 8 * length entries.now }
-    ensures { part.new ≡ flat_map bytes_of (flat_map pair_of entries.now) }
+/// Items, one after another.
+pub(crate) fn put_each<I: Item<N>, const N: usize>(part: &mut [u8], items: &[I])
+    requires { length part.old ≡ N * length items.now }
+    ensures { part.new ≡ flat_map I.spelled items.now }
 {
-    for (channel, entry) in entries.iter().enumerate() {
-        put_entry(&mut part[8 * channel..8 * channel + 8], *entry);
+    // By place: after a loop over `chunks_exact_mut(N).zip(items)` a proof knows the part's length and none of its bytes (tried; `returns` was left).
+    for (i, item) in items.iter().enumerate() {
+        part[N * i..N * i + N].copy_from_slice(&item.bytes());
     }
 }

@@ -17,12 +17,12 @@ pub enum WriteRefusal {
     Room,
 }
 
-impl WriteRefusal {
-    /// The refusal as a record.
-    pub fn fault(self) -> Fault
-        ensures { result ≡ write_fault self }
-    {
-        let (code, channel) = match self {
+/// The refusal as a record.
+impl From<WriteRefusal> for Fault {
+    ghost from_gives = { λ e f. f ≡ write_fault e };
+
+    fn from(refusal: WriteRefusal) -> Fault {
+        let (code, channel) = match refusal {
             WriteRefusal::Channels => (47, 0),
             WriteRefusal::Rows => (42, 0),
             WriteRefusal::UnfitEntry { channel } => (43, channel),
@@ -31,9 +31,7 @@ impl WriteRefusal {
         Fault {
             code,
             channel,
-            depth: 0,
-            first: 0,
-            second: 0,
+            ..Fault::default()
         }
     }
 }

@@ -1,31 +1,22 @@
 -- An encoder track keeps the laws of a head. Assumes nothing.
-use Rattle.std.proofs.Common.{arith, mod-lt, lit≤, ltb-true}
-use Rattle.std.specs.Prelude.{◌≡◌, ℕ, zero, suc, ◌+◌, ◌-◌, ◌*◌, ◌^◌, ◌<◌, Bool, true, false, ◌&&◌, nat_le, nat_lt, refl}
+use Rattle.std.proofs.Common.{arith, mod-lt, lit≤}
+use Rattle.std.proofs.lemmas.Bool.Decides.{nat_tests}
+use Rattle.std.specs.Prelude.{◌≡◌, ℕ, zero, suc, ◌+◌, ◌-◌, ◌*◌, ◌<◌, true}
 use Rattle.heads.specs.Entries.{AllBelow}
 use Rattle.heads.specs.Figures.{fits}
 use Rattle.heads.specs.Laws.{HeadLaws, Lawful, head_laws}
 use Rattle.heads.specs.PhaseTableLaws.{figures_laws, if_fit_empty, if_fit_below}
 use Rattle.heads.specs.EncoderTracks.{track_readings, track_fits, track_told, track_waits}
 
--- of a test that holds, each part does
-pub both_left : (a b : Bool) → (a && b) ≡ true → a ≡ true
-both_left true b e = refl
-both_left false b e = e
-
-pub both_right : (a b : Bool) → (a && b) ≡ true → b ≡ true
-both_right true b e = e
-both_right false true e = refl
-both_right false false e = e
-
 readings_below : (m p v d k n : ℕ) → 0 < m → AllBelow m (track_readings m p v d k n)
 readings_below m p v d k zero h = tt
 readings_below m p v d k (suc n) h = (omega (arith, mod-lt (p + k * v) h), readings_below m p v d (suc k) n h)
 
 pub track_plate : (m p v d n : ℕ) → track_fits m p v d n ≡ true → fits m (d - 1) ≡ true
-track_plate m p v d n e = both_left _ (nat_lt p m && (nat_lt v m && nat_le n (2 ^ 20))) (both_right (nat_le 1 d) _ e)
+track_plate m p v d n e = grind (arith, nat_tests)
 
 pub track_modulus : (m p v d n : ℕ) → track_fits m p v d n ≡ true → p < m
-track_modulus m p v d n e = ltb-true p m (both_left (nat_lt p m) (nat_lt v m && nat_le n (2 ^ 20)) (both_right (fits m (d - 1)) _ (both_right (nat_le 1 d) _ e)))
+track_modulus m p v d n e = grind (arith, nat_tests)
 
 pub track_lawful : (m p v d n k : ℕ) → Lawful (track_told m p v d n) (track_waits m p v d n k)
 track_lawful m p v d n k = record {

@@ -1,24 +1,21 @@
 -- A phase table keeps the laws of a head. Assumes nothing.
-use Rattle.std.proofs.Common.{arith, sym, lit≤, ltb-true}
+use Rattle.std.proofs.Common.{lit≤, ltb-true}
 use Rattle.std.specs.Prelude.{◌≡◌, ℕ, ◌<◌, ◌≤◌, Bool, true, false, cond, List, [], ◌∷◌, map, ◌==◌, nat_lt, refl}
 use Rattle.heads.specs.Entries.{Entry, reading, faulty, dark, wild, Below, AllBelow}
 use Rattle.heads.specs.Figures.{fits, figures_of}
 use Rattle.heads.specs.Laws.{PlateLaws, HeadLaws, Lawful, head_laws}
 use Rattle.heads.specs.PhaseTables.{entry_of, if_fit, table_told, table_waits}
 
-pub never : (b c : Bool) (A : Type 0) → b ≡ true → c ≡ false → b ≡ c → A
-never b c A p q e = let z : ◌≡◌ {A = ℕ} 0 1 = cc in absurd (omega arith)
-
 -- figures made by a test tell what a plate may tell
 pub figures_laws : (f : Bool) (m t d : ℕ) → (f ≡ true → fits m t ≡ true) → (f ≡ true → d ≤ 255) → d ≤ 256 → PlateLaws (figures_of f m t d)
 figures_laws true m t d h l u =
-    record { fit_limits = λ _. h refl; fit_depth = λ _. l refl; unfit_modulus = λ e. never true false _ refl refl e; unfit_bound = λ e. never true false _ refl refl e; unfit_depth = λ e. never true false _ refl refl e }
+    record { fit_limits = λ _. h refl; fit_depth = λ _. l refl; unfit_modulus = λ e. cc; unfit_bound = λ e. cc; unfit_depth = λ e. cc }
 figures_laws false m t d h l u =
-    record { fit_limits = λ e. never true false _ refl refl (sym e); fit_depth = λ e. never true false _ refl refl (sym e); unfit_modulus = λ _. refl; unfit_bound = λ _. refl; unfit_depth = λ _. u }
+    record { fit_limits = λ e. cc; fit_depth = λ e. cc; unfit_modulus = λ _. refl; unfit_bound = λ _. refl; unfit_depth = λ _. u }
 
 -- what waits only where something is fit
 pub if_fit_empty : (f : Bool) (m t d : ℕ) (w : List Entry) → (figures_of f m t d).fit ≡ false → if_fit f w ≡ []
-if_fit_empty true m t d w e = never true false _ refl refl e
+if_fit_empty true m t d w e = cc
 if_fit_empty false m t d w e = refl
 
 pub if_fit_below : (f : Bool) (m t d : ℕ) (w : List Entry) → (f ≡ true → AllBelow m w) → AllBelow (figures_of f m t d).modulus (if_fit f w)

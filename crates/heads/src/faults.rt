@@ -22,6 +22,7 @@ pub enum HeadFault {
 
 impl HeadFault {
     /// The fault as a record, of the channel given.
+    // A method and no `From`: a head knows no channel, so the caller tells it.
     pub fn fault(self, channel: usize) -> Fault
         ensures { result ≡ head_fault channel self }
     {

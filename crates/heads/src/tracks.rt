@@ -1,9 +1,8 @@
 // Encoder tracks: a head that works its readings out one by one.
-ghost use Rattle.std.specs.Prelude.{◌≡◌, ◌+◌, ◌-◌, ◌*◌, ◌%◌, ◌^◌, ◌<◌, ◌≤◌};
+ghost use Rattle.std.specs.Prelude.{◌≡◌, ◌<◌};
 ghost use Rattle.heads.specs.EncoderTrackLaws.{track_laws};
 ghost use Rattle.heads.specs.EncoderTracks.{track_channel, track_fits, track_reading, track_told, track_waits};
 
-use crate::plates::told_figures;
 use crate::{Figures, Head, HeadFault, Plate, advance, fit_figures, fitness};
 
 /// A track that is passed in even steps, read to a grain: `count` readings from `start` on.
@@ -14,6 +13,7 @@ pub struct EncoderTrack {
     step: u32,
     grain: u32,
     count: u32,
+    // A count, and no range of those that wait: a range is not `Copy`, and a track is.
     taken: usize,
 }
 
@@ -48,22 +48,24 @@ impl EncoderTrack {
             && self.step < self.modulus
             && self.count <= 1048576
     }
-}
 
-// Reading number `k` of a track.
-fn reading_at(modulus: u32, start: u32, step: u32, grain: u32, k: u32) -> u32
-    requires { (0 < modulus) × (0 < grain) }
-    ensures { result ≡ track_reading modulus start step grain k }
-{
-    let place = ((start as u64 + k as u64 * step as u64) % modulus as u64) as u32;
-    place - place % grain
+    // Reading number `k`.
+    fn reading_at(&self, k: u32) -> u32
+        requires modulus { 0 < self.now.modulus }
+        requires grain { 0 < self.now.grain }
+        ensures { result ≡ track_reading self.now.modulus self.now.start self.now.step self.now.grain k }
+    {
+        let along = u64::from(self.start) + u64::from(k) * u64::from(self.step);
+        let place = (along % u64::from(self.modulus)) as u32;
+        place - place % self.grain
+    }
 }
 
 impl Plate for EncoderTrack {
     ghost told = { λ s. track_told s.modulus s.start s.step s.grain s.count };
 
     fn figures(&self) -> Figures {
-        told_figures(self.is_fit(), self.modulus, self.grain.saturating_sub(1), 0)
+        Figures::told(self.is_fit(), self.modulus, self.grain.saturating_sub(1), 0)
     }
 }
 
@@ -81,9 +83,7 @@ impl Head for EncoderTrack {
     fn read(&mut self) -> Result<u32, HeadFault> {
         fit_figures(self)?;
         let count = self.count as usize;
-        match advance(&mut self.taken, count) {
-            Some(k) => Ok(reading_at(self.modulus, self.start, self.step, self.grain, k as u32)),
-            None => Err(HeadFault::End),
-        }
+        let k = advance(&mut self.taken, count).ok_or(HeadFault::End)?;
+        Ok(self.reading_at(k as u32))
     }
 }

@@ -1,5 +1,7 @@
 -- A layer stands where it carries what the head below stands at.
-use Rattle.std.proofs.Common.{◌≡◌, ℕ, zero, suc, ◌+◌, ◌*◌, ◌/◌, ◌%◌, ◌<◌, ◌≤◌, Bool, true, false, ◌&&◌, ltb, leb, List, [], ◌∷◌, map, ℤ, pos, negsuc, ◌+ℤ◌, ◌-ℤ◌, ◌*ℤ◌, neg_ℤ, nat_abs, ◌≤ℤ◌, refl, ap, mul-le-mul_right, mul-pos, arith, ltb-true, leb-true}
+use Rattle.std.proofs.Common.{◌≡◌, ℕ, zero, suc, ◌+◌, ◌*◌, ◌/◌, ◌%◌, ◌<◌, ◌≤◌, Bool, true, false, ◌&&◌, ltb, leb, List, [], ◌∷◌, map, ℤ, pos, negsuc, ◌+ℤ◌, ◌-ℤ◌, ◌*ℤ◌, neg_ℤ, nat_abs, ◌≤ℤ◌, refl, ap, mul-le-mul_right, mul-pos, arith, ltb-true}
+use Rattle.std.proofs.lemmas.Bool.{and_parts}
+use Rattle.std.proofs.lemmas.Bool.Decides.{nat_tests}
 use native.Mathlib.Nat.{div-add-mod}
 use Rattle.std.specs.List.{AllByRecursion}
 use Rattle.residues.specs.Circle.{Allows}
@@ -9,7 +11,6 @@ use Rattle.heads.specs.declared.plates.Figures.{Figures}
 use Rattle.heads.specs.Entries.{Entry, reading, faulty}
 use Rattle.heads.specs.Channels.{Channel}
 use Rattle.heads.specs.PhaseTables.{if_fit}
-use Rattle.heads.specs.EncoderTrackLaws.{both_left, both_right}
 use Rattle.heads.specs.Standing.{Allowing, Carried}
 use Rattle.layers.specs.Layering.{told_over, turned, zero_turns, gear_proper}
 use Rattle.layers.specs.Carrying.{zero_over, gear_over, ZeroCarries, GearCarries}
@@ -37,7 +38,7 @@ pub zero_stands : (z : ℕ) (c : Channel) → Carried c (zero_over z c) (ZeroCar
 zero_stands z c P Q a k =
     let f : Figures = c.figures in
     layer_stands f.fit (ltb z f.modulus && leb (f.depth + 1) 255) f.modulus f.bound f.depth (map (turned (zero_turns z f.modulus)) c.waits) Q
-    (λ _ p. let l : z < f.modulus = ltb-true z f.modulus (both_left _ (leb (f.depth + 1) 255) p) in
+    (λ _ p. let l : z < f.modulus = ltb-true z f.modulus (and_parts _ (leb (f.depth + 1) 255) p).0 in
     turned_allow (zero_turns z f.modulus) f.modulus f.bound f.modulus f.bound P Q c.waits (λ r. zero_allows z f.modulus f.bound r P Q (omega arith) k) a)
 
 scaled_is : (r s m P Q e j : ℤ) → r ≡ P +ℤ e +ℤ j *ℤ m → r *ℤ s ≡ Q +ℤ (e *ℤ s +ℤ P *ℤ s -ℤ Q) +ℤ j *ℤ (m *ℤ s)
@@ -64,16 +65,18 @@ gear_allows s w m t r P Q h p c a =
     (omega (arith, lin, b, n))
     (omega (arith, lin, b, n))
 
+some_of : (m s : ℕ) → 1 ≤ m * s → 0 < m
+some_of zero s h = absurd (omega arith)
+some_of (suc m) s h = omega arith
+
+-- neither the modulus below a gear nor its scale is 0
+gear_some : (s w : ℕ) (f : Figures) → gear_proper s w f ≡ true → (0 < f.modulus) × (0 < s)
+gear_some s w f e = let h : 1 ≤ f.modulus * s = grind (arith, nat_tests) in (some_of f.modulus s h, grind (arith, nat_tests))
+
 pub gear_stands : (s w : ℕ) (c : Channel) → Carried c (gear_over s w c) (GearCarries s w)
 gear_stands s w c P Q a k =
     let f : Figures = c.figures in
     layer_stands f.fit (gear_proper s w f && leb (f.depth + 1) 255) (f.modulus * s) (f.bound * s + w) f.depth (map (turned (λ r. r * s)) c.waits) Q
     (λ _ p.
-    let proper : gear_proper s w f ≡ true = both_left (gear_proper s w f) (leb (f.depth + 1) 255) p in
-    let l : 1 ≤ s = leb-true 1 s (both_left (leb 1 s) _ proper) in
-    let n : 1 ≤ f.modulus * s = leb-true 1 (f.modulus * s) (both_left (leb 1 (f.modulus * s)) _ (both_right (leb 1 s) _ proper)) in
-    turned_allow (λ r. r * s) f.modulus f.bound (f.modulus * s) (f.bound * s + w) P Q c.waits (λ r. gear_allows s w f.modulus f.bound r P Q (some f.modulus s n) l k) a)
-  where
-    some : (m s : ℕ) → 1 ≤ m * s → 0 < m
-    some zero s h = absurd (omega arith)
-    some (suc m) s h = omega arith
+    let (some, scaled) = gear_some s w f (and_parts (gear_proper s w f) (leb (f.depth + 1) 255) p).0 in
+    turned_allow (λ r. r * s) f.modulus f.bound (f.modulus * s) (f.bound * s + w) P Q c.waits (λ r. gear_allows s w f.modulus f.bound r P Q some scaled k) a)

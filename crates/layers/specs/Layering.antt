@@ -17,6 +17,11 @@ told_over true h m t d = figures_of h m t (d + 1)
 abbrev pub layer_told : (proper : Bool) → (m t : ℕ) → Figures → Figures
 layer_told p m t f = told_over f.fit (p && nat_le (f.depth + 1) 255) m t f.depth
 
+-- with its own modulus and bound; with none, where its own numbers are out of order
+abbrev pub layer_of : Option (ℕ × ℕ) → Figures → Figures
+layer_of None f = layer_told false 1 0 f
+layer_of (Some p) f = layer_told true p.0 p.1 f
+
 -- a reading is turned, and a fault passes unchanged
 abbrev pub turned : (ℕ → ℕ) → Entry → Entry
 turned g (reading r) = reading (g r)

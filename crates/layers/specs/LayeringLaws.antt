@@ -1,24 +1,24 @@
 -- Layers keep the laws of a head. Assumes nothing.
-use Rattle.std.proofs.Common.{arith, mod-lt, mul-lt-mul_of_pos_right, sym, ltb-true, leb-true}
+use Rattle.std.proofs.Common.{arith, mod-lt, mul-lt-mul_of_pos_right, ltb-true, leb-true}
+use Rattle.std.proofs.lemmas.Bool.{and_parts}
 use Rattle.std.specs.Prelude.{◌≡◌, ℕ, ◌+◌, ◌*◌, ◌<◌, ◌≤◌, Bool, true, false, ◌&&◌, List, [], ◌∷◌, map, nat_le, refl}
 use Rattle.heads.specs.declared.plates.Figures.{Figures}
 use Rattle.heads.specs.Entries.{Entry, reading, faulty, AllBelow}
 use Rattle.heads.specs.Figures.{fits}
 use Rattle.heads.specs.Laws.{PlateLaws, HeadLaws, Lawful, head_laws}
 use Rattle.heads.specs.PhaseTables.{if_fit}
-use Rattle.heads.specs.PhaseTableLaws.{never, figures_laws}
-use Rattle.heads.specs.EncoderTrackLaws.{both_left, both_right}
+use Rattle.heads.specs.PhaseTableLaws.{figures_laws}
 use Rattle.layers.specs.Layering.{layer_told, told_over, turned, zero_proper, zero_told, zero_turns, zero_waits, gear_proper, gear_told, gear_waits}
 
 -- the plate's limits, of what a layer tells
 pub layer_plate : (p : Bool) (m t : ℕ) (f : Figures) (fit : Bool) → f.fit ≡ fit → (fit ≡ true → p ≡ true → fits m t ≡ true) → PlateLaws f → PlateLaws (layer_told p m t f)
 layer_plate p m t f true e h l =
-    rw e (figures_laws (p && nat_le (f.depth + 1) 255) m t (f.depth + 1) (λ x. h refl (both_left p (nat_le (f.depth + 1) 255) x)) (λ x. leb-true (f.depth + 1) 255 (both_right p (nat_le (f.depth + 1) 255) x)) (omega (arith, l.fit_depth e)))
-layer_plate p m t f false e h l = rw e (figures_laws false 1 0 f.depth (λ x. refl) (λ x. never true false _ refl refl (sym x)) (l.unfit_depth e))
+    rw e (figures_laws (p && nat_le (f.depth + 1) 255) m t (f.depth + 1) (λ x. h refl ((and_parts p _ x).0)) (λ x. leb-true (f.depth + 1) 255 (and_parts p _ x).1) (omega (arith, l.fit_depth e)))
+layer_plate p m t f false e h l = rw e (figures_laws false 1 0 f.depth (λ x. refl) (λ x. cc) (l.unfit_depth e))
 
 -- a layer that tells it is unfit has nothing waiting
 pub layer_empty : (b h : Bool) (m t d : ℕ) (w : List Entry) → (told_over b h m t d).fit ≡ false → if_fit (b && h) w ≡ []
-layer_empty true true m t d w e = never true false _ refl refl e
+layer_empty true true m t d w e = cc
 layer_empty true false m t d w e = refl
 layer_empty false h m t d w e = refl
 
@@ -39,16 +39,16 @@ module _ (f : Figures) (w : List Entry) (plate : PlateLaws f) (below : AllBelow 
     plate = layer_plate (zero_proper z f) f.modulus f.bound f f.fit refl (λ e _. plate.fit_limits e) plate;
     unfit_empty = layer_empty f.fit (zero_proper z f && nat_le (f.depth + 1) 255) f.modulus f.bound f.depth (map (turned (zero_turns z f.modulus)) w);
     below = layer_below f.fit (zero_proper z f && nat_le (f.depth + 1) 255) f.modulus f.bound f.depth (map (turned (zero_turns z f.modulus)) w)
-        (λ _ p. let l : z < f.modulus = ltb-true z f.modulus (both_left _ (nat_le (f.depth + 1) 255) p) in
+        (λ _ p. let l : z < f.modulus = ltb-true z f.modulus (and_parts _ (nat_le (f.depth + 1) 255) p).0 in
         turned_below (zero_turns z f.modulus) f.modulus f.modulus w (λ r _. mod-lt (r + z) (omega arith)) below);
   }
 
   pub gear_lawful : (a b : ℕ) → Lawful (gear_told a b f) (gear_waits a b f w)
   gear_lawful a b = record {
-    plate = layer_plate (gear_proper a b f) (f.modulus * a) (f.bound * a + b) f f.fit refl (λ _ p. both_right (nat_le 1 a) _ p) plate;
+    plate = layer_plate (gear_proper a b f) (f.modulus * a) (f.bound * a + b) f f.fit refl (λ _ p. (and_parts (nat_le 1 a) _ p).1) plate;
     unfit_empty = layer_empty f.fit (gear_proper a b f && nat_le (f.depth + 1) 255) (f.modulus * a) (f.bound * a + b) f.depth (map (turned (λ r. r * a)) w);
     below = layer_below f.fit (gear_proper a b f && nat_le (f.depth + 1) 255) (f.modulus * a) (f.bound * a + b) f.depth (map (turned (λ r. r * a)) w)
-        (λ _ p. let l : 1 ≤ a = leb-true 1 a (both_left (nat_le 1 a) _ (both_left _ (nat_le (f.depth + 1) 255) p)) in
+        (λ _ p. let l : 1 ≤ a = leb-true 1 a (and_parts (nat_le 1 a) _ (and_parts _ (nat_le (f.depth + 1) 255) p).0).0 in
         turned_below (λ r. r * a) f.modulus (f.modulus * a) w (λ r h. mul-lt-mul_of_pos_right h l) below);
   }
 

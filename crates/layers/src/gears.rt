@@ -1,5 +1,5 @@
 // Gears: a layer that makes each reading larger by a whole factor.
-ghost use Rattle.std.specs.Prelude.{◌≡◌, ◌+◌, ◌*◌, ◌<◌, ◌≤◌};
+ghost use Rattle.std.specs.Prelude.{◌≡◌, ◌*◌, ◌≤◌};
 ghost use Rattle.heads.specs.Channels.{channel_of};
 ghost use Rattle.heads.specs.Standing.{Carried};
 ghost use Rattle.layers.specs.Carrying.{GearCarries, gear_over};
@@ -37,18 +37,9 @@ impl<H: Head> Gear<H> {
 fn geared(below: Figures, scale: u32, slack: u32) -> Option<(u32, u32)>
     ensures { Geared scale slack below result }
 {
-    let modulus = below.modulus as u64 * scale as u64;
-    let bound = below.bound as u64 * scale as u64 + slack as u64;
-    if scale == 0 || modulus > 2147483648 || bound > 2147483648 {
-        return None;
-    }
-    let modulus = modulus as u32;
-    let bound = bound as u32;
-    if fitness(modulus, bound) {
-        Some((modulus, bound))
-    } else {
-        None
-    }
+    let modulus = below.modulus.checked_mul(scale)?;
+    let bound = below.bound.checked_mul(scale)?.checked_add(slack)?;
+    (scale >= 1 && fitness(modulus, bound)).then_some((modulus, bound))
 }
 
 // A reading behind the gear.
@@ -64,10 +55,7 @@ impl<H: Head> Plate for Gear<H> {
 
     fn figures(&self) -> Figures {
         let below = self.below.head_figures();
-        match geared(below, self.scale, self.slack) {
-            Some((modulus, bound)) => layered(below, true, modulus, bound),
-            None => layered(below, false, 1, 0),
-        }
+        layered(below, geared(below, self.scale, self.slack))
     }
 }
 
@@ -82,6 +70,7 @@ impl<H: Head> Head for Gear<H> {
         self.figures()
     }
 
+    // A zero's read differs in its rule alone: a helper that took the rule as a closure would be no shorter.
     fn read(&mut self) -> Result<u32, HeadFault> {
         fit_figures(self)?;
         let reading = self.below.read()?;

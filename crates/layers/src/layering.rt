@@ -1,36 +1,20 @@
 // What every layer tells, from the figures below.
 ghost use Rattle.std.specs.Prelude.{◌≡◌, ◌≤◌};
-ghost use Rattle.layers.specs.Layering.{layer_told};
+ghost use Rattle.layers.specs.Layering.{layer_of};
 
 use heads::Figures;
 
-/// The figures of a layer with this modulus and bound, where its own numbers are in order or not.
-pub(crate) fn layered(below: Figures, proper: bool, modulus: u32, bound: u32) -> Figures
+/// The figures of a layer with this modulus and bound; of None, where its own numbers are out of order.
+pub(crate) fn layered(below: Figures, own: Option<(u32, u32)>) -> Figures
     requires { below.depth ≤ 256 }
-    ensures { result ≡ layer_told proper modulus bound below }
+    ensures { result ≡ layer_of own below }
 {
     if !below.fit {
-        return Figures {
-            fit: false,
-            modulus: 1,
-            bound: 0,
-            depth: below.depth,
-        };
+        return Figures::unfit(below.depth);
     }
     let depth = below.depth + 1;
-    if proper && depth <= 255 {
-        Figures {
-            fit: true,
-            modulus,
-            bound,
-            depth,
-        }
-    } else {
-        Figures {
-            fit: false,
-            modulus: 1,
-            bound: 0,
-            depth,
-        }
+    match own {
+        Some((modulus, bound)) => Figures::told(depth <= 255, modulus, bound, depth),
+        None => Figures::unfit(depth),
     }
 }

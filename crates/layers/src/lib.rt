@@ -6,11 +6,15 @@ mod gathering;
 mod gears;
 mod layering;
 mod offsets;
+mod origins;
 mod zeros;
 
 pub use bursts::Burst;
 pub use gears::Gear;
 pub use zeros::Zero;
+
+/// The most entries that a burst takes.
+const MOST: usize = 15;
 
 #[cfg(test)]
 mod tests {

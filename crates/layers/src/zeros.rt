@@ -1,5 +1,5 @@
 // Zero offsets: a layer that adds a number to each reading, round the modulus.
-ghost use Rattle.std.specs.Prelude.{◌≡◌, ◌+◌, ◌%◌, ◌<◌, ◌≤◌};
+ghost use Rattle.std.specs.Prelude.{◌≡◌, ◌<◌};
 ghost use Rattle.heads.specs.Channels.{channel_of};
 ghost use Rattle.heads.specs.Standing.{Carried};
 ghost use Rattle.layers.specs.Carrying.{ZeroCarries, zero_over};
@@ -32,7 +32,7 @@ fn offset(reading: u32, zero: u32, modulus: u32) -> u32
     requires { zero < modulus }
     ensures { result ≡ zero_turns zero modulus reading }
 {
-    ((reading as u64 + zero as u64) % modulus as u64) as u32
+    ((u64::from(reading) + u64::from(zero)) % u64::from(modulus)) as u32
 }
 
 impl<H: Head> Plate for Zero<H> {
@@ -40,7 +40,8 @@ impl<H: Head> Plate for Zero<H> {
 
     fn figures(&self) -> Figures {
         let below = self.below.head_figures();
-        layered(below, self.zero < below.modulus, below.modulus, below.bound)
+        let proper = self.zero < below.modulus;
+        layered(below, proper.then_some((below.modulus, below.bound)))
     }
 }
 
@@ -55,6 +56,7 @@ impl<H: Head> Head for Zero<H> {
         self.figures()
     }
 
+    // A gear's read differs in its rule alone: a helper that took the rule as a closure would be no shorter.
     fn read(&mut self) -> Result<u32, HeadFault> {
         let told = fit_figures(self)?;
         let reading = self.below.read()?;

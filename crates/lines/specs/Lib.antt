@@ -1,4 +1,3 @@
-pub mod Building
 pub mod Lines
 pub mod Refusals
 pub mod Printing

@@ -1,96 +1,45 @@
-// A line is put together from its end to its beginning, since digits come from the last one on.
-ghost use Rattle.std.specs.Prelude.{◌≡◌, ◌+◌, ◌%◌, ◌<◌, ◌≤◌, [], ◌∷◌, ◌++◌, length, decimal, nat_le};
-ghost use Rattle.lines.specs.Building.{room, text_of};
-ghost use Rattle.lines.specs.Lines.{blank};
+// The line of a fix or of a fault, built in a text of its own: the caller's buffer stays as it was where the line does not fit.
+ghost use Rattle.std.specs.Prelude.{◌≡◌, ◌+◌, ◌≤◌, ◌++◌, length, decimal};
+ghost use Rattle.arrayvec.specs.ArrayString.{array_string_len};
+ghost use Rattle.lines.specs.Lines.{fault_line, fix_line};
+
+use arrayvec::ArrayString;
+use itoa::Buffer;
+use records::{Fault, Fix};
 
 /// Room for the longest line, a fault's: three numbers of up to 20 digits, 24 bytes of words, and the end.
 const ROOM: usize = 85;
 
-/// The end of a line: the bytes from `at` on.
-#[derive(Clone, Copy)]
-pub(crate) struct Ending {
-    bytes: [u8; ROOM],
-    at: usize,
-}
-
-/// The last digit of a number, as a byte.
-fn last_digit(n: u64) -> u8
-    ensures { result ≡ 48 + n % 10 }
+/// Appends words and the digits of a number.
+fn put(line: &mut ArrayString<ROOM>, words: &str, n: u64)
+    requires { array_string_len line.old + length words.now + 20 ≤ ROOM }
+    ensures text { line.new.bytes ≡ line.old.bytes ++ (words.now ++ decimal n) }
+    ensures few { array_string_len line.new ≤ array_string_len line.old + length words.now + 20 }
 {
-    b'0' + (n % 10) as u8
+    line.push_str(words);
+    line.push_str(Buffer::new().format(n));
 }
 
-/// Whether a number has digits before its last one.
-fn has_more_digits(n: u64) -> bool
-    ensures { result ≡ nat_le 10 n }
+/// The line of a fix.
+pub(crate) fn line_of_fix(fix: &Fix) -> ArrayString<ROOM>
+    ensures { result.bytes ≡ fix_line fix.now }
 {
-    n >= 10
+    let mut line = ArrayString::new();
+    put(&mut line, "", fix.start);
+    put(&mut line, " ", fix.count);
+    put(&mut line, " ", fix.mean);
+    line.push('\n');
+    line
 }
 
-impl Ending {
-    /// Nothing yet.
-    pub(crate) fn new() -> Ending
-        ensures text { text_of result ≡ [] }
-        ensures at { result.at ≡ room }
-    {
-        Ending {
-            bytes: [0; ROOM],
-            at: ROOM,
-        }
-    }
-
-    /// Puts a byte before the others.
-    pub(crate) fn put_byte(&mut self, byte: u8)
-        requires { (0 < self.old.at) × (self.old.at ≤ room) }
-        ensures text { text_of self.new ≡ byte ∷ text_of self.old }
-        ensures at { self.new.at + 1 ≡ self.old.at }
-    {
-        self.at -= 1;
-        self.bytes[self.at] = byte;
-    }
-
-    /// Puts the digits of a number before the others.
-    pub(crate) fn put_number(&mut self, n: u64)
-        requires { (20 ≤ self.old.at) × (self.old.at ≤ room) }
-        ensures text { text_of self.new ≡ decimal n ++ text_of self.old }
-        ensures at { self.new.at + length (decimal n) ≡ self.old.at }
-        ensures few { self.old.at ≤ self.new.at + 20 }
-    {
-        let mut left = n;
-        while has_more_digits(left) {
-            self.put_byte(last_digit(left));
-            left /= 10;
-        }
-        self.put_byte(last_digit(left));
-    }
-
-    /// Puts a space and the digits of a number before the others.
-    pub(crate) fn put_spaced(&mut self, n: u64)
-        requires { (21 ≤ self.old.at) × (self.old.at ≤ room) }
-        ensures text { text_of self.new ≡ blank ∷ (decimal n ++ text_of self.old) }
-        ensures at { self.new.at ≤ self.old.at }
-        ensures few { self.old.at ≤ self.new.at + 21 }
-    {
-        self.put_number(n);
-        self.put_byte(b' ');
-    }
-
-    /// Puts a text before the others.
-    pub(crate) fn put(&mut self, text: &[u8])
-        requires { (length text.now ≤ self.old.at) × (self.old.at ≤ room) }
-        ensures text { text_of self.new ≡ text.now ++ text_of self.old }
-        ensures at { self.new.at + length text.now ≡ self.old.at }
-    {
-        let end = self.at;
-        self.at -= text.len();
-        self.bytes[self.at..end].copy_from_slice(text);
-    }
-
-    /// The bytes so far.
-    pub(crate) fn text(&self) -> &[u8]
-        requires { self.now.at ≤ room }
-        ensures { result.now ≡ text_of self.now }
-    {
-        &self.bytes[self.at..ROOM]
-    }
+/// The line of a fault.
+pub(crate) fn line_of_fault(fault: &Fault) -> ArrayString<ROOM>
+    ensures { result.bytes ≡ fault_line fault.now }
+{
+    let mut line = ArrayString::new();
+    put(&mut line, "refused ", fault.code as u64);
+    put(&mut line, " channel ", fault.channel as u64);
+    put(&mut line, " depth ", fault.depth as u64);
+    line.push('\n');
+    line
 }

@@ -1,6 +1,6 @@
 // Why a line is not printed.
 ghost use Rattle.std.specs.Prelude.{◌≡◌};
-ghost use Rattle.lines.specs.Refusals.{fault_line_fault, fix_line_fault, only_numbered};
+ghost use Rattle.lines.specs.Refusals.{fault_line_fault, fix_line_fault};
 
 use records::Fault;
 
@@ -13,14 +13,18 @@ pub enum FixLineRefusal {
     Short,
 }
 
-impl FixLineRefusal {
-    /// The refusal as a record.
-    pub fn fault(self) -> Fault
-        ensures { result ≡ fix_line_fault self }
-    {
-        match self {
-            FixLineRefusal::Outside => numbered(53),
-            FixLineRefusal::Short => numbered(52),
+/// The refusal as a record.
+impl From<FixLineRefusal> for Fault {
+    ghost from_gives = { λ e f. f ≡ fix_line_fault e };
+
+    fn from(refusal: FixLineRefusal) -> Fault {
+        let code = match refusal {
+            FixLineRefusal::Outside => 53,
+            FixLineRefusal::Short => 52,
+        };
+        Fault {
+            code,
+            ..Fault::default()
         }
     }
 }
@@ -32,26 +36,15 @@ pub enum FaultLineRefusal {
     Short,
 }
 
-impl FaultLineRefusal {
-    /// The refusal as a record.
-    pub fn fault(self) -> Fault
-        ensures { result ≡ fault_line_fault self }
-    {
-        match self {
-            FaultLineRefusal::Short => numbered(52),
-        }
-    }
-}
+/// The refusal as a record.
+impl From<FaultLineRefusal> for Fault {
+    ghost from_gives = { λ e f. f ≡ fault_line_fault e };
 
-/// A refusal of which only the number says something.
-fn numbered(code: u8) -> Fault
-    ensures { result ≡ only_numbered code }
-{
-    Fault {
-        code,
-        channel: 0,
-        depth: 0,
-        first: 0,
-        second: 0,
+    fn from(refusal: FaultLineRefusal) -> Fault {
+        let FaultLineRefusal::Short = refusal;
+        Fault {
+            code: 52,
+            ..Fault::default()
+        }
     }
 }

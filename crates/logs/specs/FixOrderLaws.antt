@@ -1,16 +1,13 @@
 -- The order of fixes is total. Assumes nothing.
 use Rattle.std.specs.Prelude.{Bool, nat_lt}
-use Rattle.std.proofs.Common.{arith}
-use Rattle.std.proofs.lemmas.Bool.{ltb-true, ltb-false, le-ltb}
+use Rattle.std.proofs.Common.{subst}
+use Rattle.std.proofs.lemmas.Cmp.{nat_cmp_total}
 use Rattle.records.specs.Orders.{Total}
-use Rattle.records.specs.OrderLaws.{in_turn_total}
+use Rattle.records.specs.OrderLaws.{in_turn_total, lesser_by_total, lesser_by_is_nat_lt}
 use Rattle.logs.specs.FixOrder.{fix_key, fix_lesser, key_lesser}
 
 pub rising_total : Total nat_lt
-rising_total = record {
-  one_way = λ a b e. le-ltb b a (omega (arith, ltb-true a b e));
-  chain = λ a b c d e. le-ltb a c (omega (arith, ltb-false a b d, ltb-false b c e));
-}
+rising_total = subst (λ l. Total l) lesser_by_is_nat_lt (lesser_by_total nat_cmp_total)
 
 -- items in the order of their keys
 keyed_total : {J K : Type 0} (key : J → K) (lesser : K → K → Bool) → Total lesser → Total (λ x y. lesser (key x) (key y))

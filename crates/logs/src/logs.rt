@@ -1,17 +1,20 @@
 // Logs: a list of records in places that the caller lends.
-ghost use Rattle.std.specs.Prelude.{◌≡◌, ◌+◌, ◌<◌, ◌≤◌, [], length, MatchOption, slice_set};
-ghost use Rattle.logs.specs.Logs.{Appended, StandsAt, full_log, held, places_of};
+ghost use Rattle.std.specs.Prelude.{◌≡◌, ◌≤◌, [], length, MatchOption};
 
 use crate::AppendRefusal;
 
 /// A log: the first `count` of the places, oldest first.
+// The caller lends the places, since the library has no heap: a count beside them says which are taken.
 #[derive(Drop)]
 pub struct Log<'a, T> {
     places: &'a mut [T],
     count: usize,
+    ghost within: { count ≤ length places.now },
 }
 
 impl<'a, T: Drop> Log<'a, T> {
+    ghost use Rattle.logs.specs.Logs.{Appended, StandsAt, full_log, held, places_of};
+
     /// A log with no records. What the places hold stays until a record is put there.
     pub fn new(places: &'a mut [T]) -> Log<'a, T>
         ensures empty { held result ≡ [] }
@@ -25,26 +28,21 @@ impl<'a, T: Drop> Log<'a, T> {
     pub fn records(&self) -> &[T]
         ensures { result.now ≡ held self.now }
     {
-        let places = &*self.places;
-        if self.count < places.len() {
-            &places[0..self.count]
-        } else {
-            places
-        }
+        &self.places[..self.count]
     }
 
     /// How many records there are.
     pub fn count(&self) -> usize
         ensures { result ≡ length (held self.now) }
     {
-        self.records().len()
+        self.count
     }
 
     /// Whether there are as many records as places.
     pub fn is_full(&self) -> bool
         ensures { result ≡ full_log self.now }
     {
-        self.count() == self.places.len()
+        self.count == self.places.len()
     }
 
     /// Record `k`, counted from 0, or none beyond the last.
@@ -62,19 +60,9 @@ impl<'a, T: Drop> Log<'a, T> {
         if self.is_full() {
             return Err(AppendRefusal::Full);
         }
-        self.store(record);
-        Ok(())
-    }
-
-    /// Puts a record into the next place.
-    fn store(&mut self, record: T)
-        requires { self.old.count < length (places_of self.old) }
-        ensures count { self.new.count ≡ self.old.count + 1 }
-        ensures places { places_of self.new ≡ slice_set (places_of self.old) self.old.count «record» }
-        ensures lender { self.new.places.ghost_name ≡ self.old.places.ghost_name }
-    {
         self.places[self.count] = record;
         self.count += 1;
+        Ok(())
     }
 
     /// Lets go of all records; the places stay as they are.

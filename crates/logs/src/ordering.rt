@@ -1,23 +1,9 @@
 // The order of fixes: by mean, and then by count.
-ghost use Rattle.std.specs.Prelude.{◌≡◌, Decides, nat_lt};
+ghost use Rattle.std.specs.Prelude.{◌≡◌, Decides};
 ghost use Rattle.logs.specs.FixOrder.{Before, fix_key, fix_lesser};
-ghost use Rattle.logs.specs.FixOrderLaws.{fix_total, rising_total};
+ghost use Rattle.logs.specs.FixOrderLaws.{fix_total};
 
-use records::{Fix, InTurn, Order};
-
-/// Numbers from the least up.
-#[derive(Clone, Copy, Drop)]
-struct Rising;
-
-impl Order<u64> for Rising {
-    ghost lesser = { nat_lt };
-
-    ghost laws = { rising_total };
-
-    fn is_less(&self, a: &u64, b: &u64) -> bool {
-        *a < *b
-    }
-}
+use records::{Fix, Order};
 
 /// What a fix is ordered by.
 fn key(fix: &Fix) -> (u64, u64)
@@ -40,10 +26,6 @@ impl Order<Fix> for ByMean {
         ensures answers { result ≡ fix_lesser a.now b.now }
         ensures decides { Decides result (Before a.now b.now) }
     {
-        let by_key = InTurn {
-            first: Rising,
-            second: Rising,
-        };
-        by_key.is_less(&key(a), &key(b))
+        key(a) < key(b)
     }
 }

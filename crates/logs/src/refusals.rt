@@ -11,20 +11,17 @@ pub enum AppendRefusal {
     Full,
 }
 
-impl AppendRefusal {
-    /// The refusal as a record.
-    pub fn fault(self) -> Fault
-        ensures { result ≡ append_fault self }
-    {
-        let code = match self {
+/// The refusal as a record.
+impl From<AppendRefusal> for Fault {
+    ghost from_gives = { λ e f. f ≡ append_fault e };
+
+    fn from(refusal: AppendRefusal) -> Fault {
+        let code = match refusal {
             AppendRefusal::Full => 18,
         };
         Fault {
             code,
-            channel: 0,
-            depth: 0,
-            first: 0,
-            second: 0,
+            ..Fault::default()
         }
     }
 }

@@ -15,7 +15,7 @@ impl<T, O: Order<T>> Order<T> for Counted<O> {
     ghost laws = { O.Order.laws };
 
     fn is_less(&self, a: &T, b: &T) -> bool {
-        self.count.set(self.count.get().saturating_add(1));
+        self.count.update(|n| n.saturating_add(1));
         self.order.is_less(a, b)
     }
 }

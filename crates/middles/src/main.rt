@@ -12,12 +12,11 @@ use std::io;
 /// Prints the comparisons, the place and the number in the middle of the list of `n` scattered numbers.
 fn tell(rt: &HostRuntime, n: u64) -> io::Result<()> {
     let numbers = scattered::list(rt.alloc(), n)?;
-    let items = numbers.as_slice();
     let order = Counted {
         order: Ascending,
         count: Cell::new(0),
     };
-    match middle(&order, items) {
+    match middle(&order, &numbers) {
         Some(place) => {
             let count = order.count.get();
             println!(rt; "{n} items: {count} comparisons, the middle at place {place}")
@@ -27,7 +26,8 @@ fn tell(rt: &HostRuntime, n: u64) -> io::Result<()> {
 }
 
 fn main(rt: HostRuntime) -> io::Result<()> {
-    tell(&rt, 1000)?;
-    tell(&rt, 10000)?;
-    tell(&rt, 100000)
+    for n in [1000, 10000, 100000] {
+        tell(&rt, n)?;
+    }
+    Ok(())
 }

@@ -1,8 +1,10 @@
 -- The channels of a recording that is played, one by one.
 use Rattle.std.proofs.Common.{◌≡◌, ℕ, zero, suc, ◌+◌, ◌<◌, ◌≤◌, Bool, true, false, cond, leb, ◌≢◌, List, [], ◌∷◌, length, get_or, drop, set, replicate, Some, None, Ok, Err, Option, Result, sym, refl, ap, ◌∙◌, subst, add-zero, add-suc, suc-add, arith}
 use Rattle.std.specs.List.{slice_get}
+use Rattle.std.specs.Option.{MatchOption, ok_or}
+use Rattle.std.specs.Result.{result_ok}
 use Rattle.std.proofs.lemmas.List.{get_or-set_same, get_or-set_other}
-use Rattle.std.proofs.lemmas.Bool.{leb-true, le-leb, lt-leb}
+use Rattle.std.proofs.lemmas.Bool.{le-leb, lt-leb}
 use Rattle.heads.specs.declared.plates.Figures.{Figures}
 use Rattle.heads.specs.declared.faults.HeadFault.{HeadFault}
 use Rattle.heads.specs.Answers.{Reads}
@@ -17,9 +19,10 @@ use Rattle.recordings.specs.declared.refusals.CheckRefusal.{CheckRefusal}
 use Rattle.recordings.specs.Contents.{column_of, entries_of, note_of, rows_of}
 use Rattle.recordings.specs.Laws.{RecordsOne, RefusedRecordsNothing}
 use Rattle.recordings.specs.Layout.{Records}
-use Rattle.recordings.specs.Refusals.{CheckRefused}
+use Rattle.recordings.specs.Refusals.{CheckRefused, Checked}
+use Rattle.playbacks.specs.declared.columns.Column.{Column}
+use Rattle.playbacks.specs.Columns.{IsColumn, Found}
 use Rattle.playbacks.specs.Playing.{PlayedBytes, Plays, played, played_from, if_few, few_entries, playback_channels}
-use Rattle.playbacks.proofs.Columns.{nth_within}
 
 pub few_length : {X : Type 0} (b : Bool) (xs : List X) → length (if_few b xs) ≡ cond b (length xs) 0
 few_length true xs = refl
@@ -34,13 +37,13 @@ count_is r rows = from_length r rows 0 (few_entries r) ∙ few_length (leb (leng
 
 -- a channel that has an entry, and one that has none
 at_from : (r : Recording) (rows : List ℕ) (i p : ℕ) (es : List ChannelEntry) (e : ChannelEntry) → slice_get es p ≡ Some e → channel_at p (played_from r rows i es) ≡ Some (played r (get_or rows (i + p) 0) (i + p) e)
-at_from r rows i p [] e h = let z : ◌≡◌ {A = ℕ} 0 1 = cc in absurd (omega arith)
+at_from r rows i p [] e h = cc
 at_from r rows i zero (x ∷ es) e h = let same : x ≡ e = cc in rw (add-zero i) (ap (λ (y : ChannelEntry). Some (played r (get_or rows i 0) i y)) same)
 at_from r rows i (suc p) (x ∷ es) e h = at_from r rows (suc i) p es e h ∙ ap (λ (k : ℕ). Some (played r (get_or rows k 0) k e)) (suc-add i p ∙ sym (add-suc i p))
 
 none_from : (r : Recording) (rows : List ℕ) (i p : ℕ) (es : List ChannelEntry) → slice_get es p ≡ None → channel_at p (played_from r rows i es) ≡ None
 none_from r rows i p [] h = refl
-none_from r rows i zero (x ∷ es) h = let z : ◌≡◌ {A = ℕ} 0 1 = cc in absurd (omega arith)
+none_from r rows i zero (x ∷ es) h = cc
 none_from r rows i (suc p) (x ∷ es) h = none_from r rows (suc i) p es h
 
 -- rows before the first channel told do not matter
@@ -54,7 +57,7 @@ before r rows k i j (e ∷ es) h =
 -- one channel goes on by a row
 rest_from : (r : Recording) (rows : List ℕ) (i p k j : ℕ) (es : List ChannelEntry) (e : ChannelEntry) → i + p ≡ k → k < length rows → slice_get es p ≡ Some e → played r j k e ≡ read_on (played r (get_or rows k 0) k e)
     → played_from r (set rows k j) i es ≡ channel_rest p (played_from r rows i es)
-rest_from r rows i p k j [] e s l h q = let z : ◌≡◌ {A = ℕ} 0 1 = cc in absurd (omega arith)
+rest_from r rows i p k j [] e s l h q = cc
 rest_from r rows i zero k j (x ∷ es) e s l h q =
     let same : x ≡ e = cc in
     let ik : k ≡ i = omega arith in
@@ -69,24 +72,10 @@ rest_from r rows i (suc p) k j (x ∷ es) e s l h q =
 
 none_rest : (p : ℕ) (cs : List Channel) → channel_at p cs ≡ None → channel_rest p cs ≡ cs
 none_rest p [] h = refl
-none_rest zero (c ∷ cs) h = let z : ◌≡◌ {A = ℕ} 0 1 = cc in absurd (omega arith)
+none_rest zero (c ∷ cs) h = cc
 none_rest (suc p) (c ∷ cs) h = ap (λ (ds : List Channel). c ∷ ds) (none_rest p cs h)
 
--- an entry among few is one of the recording, of a channel below 8
-pub few_there : (r : Recording) (k : ℕ) (e : ChannelEntry) → slice_get (few_entries r) k ≡ Some e → (slice_get (entries_of r) k ≡ Some e) × (k < 8)
-few_there r k e h = go (leb (length (entries_of r)) 8) refl h
-  where
-    go : (b : Bool) → leb (length (entries_of r)) 8 ≡ b → slice_get (if_few b (entries_of r)) k ≡ Some e → (slice_get (entries_of r) k ≡ Some e) × (k < 8)
-    go true q x = (x, omega (arith, nth_within (entries_of r) k e x, leb-true (length (entries_of r)) 8 q))
-    go false q x = let z : ◌≡◌ {A = ℕ} 0 1 = cc in absurd (omega arith)
-
 module _ (r : Recording) (rows : List ℕ) (k : ℕ) where
-  pub tells_none : None ≡ slice_get (few_entries r) k → Err (NoSuchChannel k) ≡ channel_figures k (playback_channels (Some r) rows)
-  tells_none h = ap (told_by k) (sym (none_from r rows 0 k (few_entries r) (sym h)))
-
-  pub reads_none : None ≡ slice_get (few_entries r) k → BankReads (playback_channels (Some r) rows) k (Err (NoSuchChannel k)) (playback_channels (Some r) rows)
-  reads_none h = let n = none_from r rows 0 k (few_entries r) (sym h) in record { answers = ap (answered_by k) (sym n); leaves = sym (none_rest k (playback_channels (Some r) rows) n) }
-
   module _ (e : ChannelEntry) (h : Some e ≡ slice_get (few_entries r) k) where
     there : channel_at k (playback_channels (Some r) rows) ≡ Some (played r (get_or rows k 0) k e)
     there = at_from r rows 0 k (few_entries r) e (sym h) ∙ ap (λ (n : ℕ). Some (played r (get_or rows n 0) n e)) (omega arith)
@@ -101,18 +90,40 @@ module _ (r : Recording) (rows : List ℕ) (k : ℕ) where
       leaves = rest_from r rows 0 k k j (few_entries r) e (omega arith) l (sym h) (ap (channel_of (table_told e.modulus e.bound)) d.leaves);
     }
 
--- the same of a playback whose recording is known to be r
-module _ (o : Option Recording) (r : Recording) (q : o ≡ Some r) (rows : List ℕ) (k : ℕ) where
-  pub known_none : None ≡ slice_get (few_entries r) k → BankReads (playback_channels o rows) k (Err (NoSuchChannel k)) (playback_channels o rows)
-  known_none h = subst (λ (p : Option Recording). BankReads (playback_channels p rows) k (Err (NoSuchChannel k)) (playback_channels p rows)) (sym q) (reads_none r rows k h)
+-- what follows of an option from what is known of it
+pub of_each : {T : Type 0} (o : Option T) {P Q : Type 0} {R S : T → Type 0} → MatchOption o P R → (P → Q) → ((x : T) → R x → S x) → MatchOption o Q S
+of_each None h f g = f h
+of_each (Some x) h f g = g x h
 
-  pub known_there : (e : ChannelEntry) (h : Some e ≡ slice_get (few_entries r) k) (j : ℕ) (a : Result ℕ HeadFault) → k < length rows
-      → Reads (table_told e.modulus e.bound) (table_waits e.modulus e.bound (drop (get_or rows k 0) (column_of r k))) a (table_told e.modulus e.bound) (table_waits e.modulus e.bound (drop j (column_of r k)))
-      → (x : Result ℕ BankFault) (later : List ℕ) → x ≡ of_channel k a → later ≡ set rows k j → BankReads (playback_channels o rows) k x (playback_channels o later)
-  known_there e h j a l d x later y z =
-      subst (λ (ns : List ℕ). BankReads (playback_channels o rows) k x (playback_channels o ns)) (sym z)
-      (subst (λ (v : Result ℕ BankFault). BankReads (playback_channels o rows) k v (playback_channels o (set rows k j))) (sym y)
-      (subst (λ (p : Option Recording). BankReads (playback_channels p rows) k (of_channel k a) (playback_channels p (set rows k j))) (sym q) (reads_there r rows k e h j a l d)))
+-- how many channels are played
+pub counted : (o : Option Recording) (rows : List ℕ) (n : ℕ) → MatchOption o (n ≡ 0) (λ r. n ≡ cond (leb (length (entries_of r)) 8) (length (entries_of r)) 0) → n ≡ length (playback_channels o rows)
+counted None rows n h = h
+counted (Some r) rows n h = h ∙ sym (count_is r rows)
+
+-- the column of a channel that is played, if there is one
+pub found : (o : Option Recording) (k : ℕ) (p : Option Column) → MatchOption o (p ≡ None) (λ r. MatchOption p (slice_get (few_entries r) k ≡ None) (IsColumn r k)) → Found o k (ok_or p (NoSuchChannel k))
+found None k p h = rw h (refl, λ rows. refl)
+found (Some r) k None h = (refl, λ rows. none_from r rows 0 k (few_entries r) h)
+found (Some r) k (Some c) h =
+    (ap Some (sym h.recording_is), record { recording_is = refl; channel_is = h.channel_is; entry_is = rw h.recording_is h.entry_is; within = h.within })
+
+-- a channel that is not there is read
+pub reads_none : (cs : List Channel) (k : ℕ) (x : Result ℕ BankFault) → channel_at k cs ≡ None → x ≡ Err (NoSuchChannel k) → BankReads cs k x cs
+reads_none cs k x n e = record { answers = e ∙ ap (answered_by k) (sym n); leaves = sym (none_rest k cs n) }
+
+-- what the column of a channel tells, and what its read is
+module _ (o : Option Recording) (rows : List ℕ) (k : ℕ) (c : Column) (f : Found o k (Ok c)) where
+  pub tells_column : (g : Figures) → g ≡ table_told c.entry.modulus c.entry.bound → Ok g ≡ channel_figures k (playback_channels o rows)
+  tells_column g q = rw f.0 (tells_there c.recording rows k c.entry (sym f.1.entry_is) g q)
+
+  pub reads_column : (j : ℕ) (a : Result ℕ HeadFault) (x : Result ℕ BankFault) → k < length rows
+      → Reads (table_told c.entry.modulus c.entry.bound) (table_waits c.entry.modulus c.entry.bound (drop (get_or rows k 0) (column_of c.recording c.channel))) a (table_told c.entry.modulus c.entry.bound) (table_waits c.entry.modulus c.entry.bound (drop j (column_of c.recording c.channel)))
+      → x ≡ of_channel k a → BankReads (playback_channels o rows) k x (playback_channels o (set rows k j))
+  reads_column j a x l d y =
+      let m = c.entry.modulus in
+      let t = c.entry.bound in
+      let here = subst (λ (n : ℕ). Reads (table_told m t) (table_waits m t (drop (get_or rows k 0) (column_of c.recording n))) a (table_told m t) (table_waits m t (drop j (column_of c.recording n)))) f.1.channel_is d in
+      rw (f.0, y) (reads_there c.recording rows k c.entry (sym f.1.entry_is) j a l here)
 
 -- every channel stands at row 0
 pub no_rows : (n k : ℕ) → get_or {A = ℕ} (replicate n 0) k 0 ≡ 0
@@ -133,7 +144,7 @@ pub plays_none : (r : Recording) (rows : List ℕ) → 8 < length (entries_of r)
 plays_none r rows h = rw (lt-leb (length (entries_of r)) 8 h)
 
 -- bytes that are a recording
-pub plays_bytes : (bs : List ℕ) (r : Recording) (cs : List Channel) → RecordsOne → RefusedRecordsNothing → Records bs (note_of r) (rows_of r) (entries_of r) → (length (entries_of r) ≤ 8 → Plays (rows_of r) (entries_of r) cs) → PlayedBytes bs cs
+plays_bytes : (bs : List ℕ) (r : Recording) (cs : List Channel) → RecordsOne → RefusedRecordsNothing → Records bs (note_of r) (rows_of r) (entries_of r) → (length (entries_of r) ≤ 8 → Plays (rows_of r) (entries_of r) cs) → PlayedBytes bs cs
 plays_bytes bs r cs one none d p = record {
   recorded = λ note xs es d'.
       let s = one bs (note_of r) note (rows_of r) xs (entries_of r) es d d' in
@@ -142,5 +153,10 @@ plays_bytes bs r cs one none d p = record {
 }
 
 -- bytes that are none
-pub plays_nothing : (bs : List ℕ) (e : CheckRefusal) → RefusedRecordsNothing → CheckRefused bs e → PlayedBytes bs []
+plays_nothing : (bs : List ℕ) (e : CheckRefusal) → RefusedRecordsNothing → CheckRefused bs e → PlayedBytes bs []
 plays_nothing bs e none x = record { recorded = λ note xs es d. absurd (none bs note xs es e x d); refused = λ _ _. refl }
+
+-- what the check of bytes answers is played from the first row on
+pub plays_checked : (bs : List ℕ) (r : Result Recording CheckRefusal) → RecordsOne → RefusedRecordsNothing → Checked bs r → PlayedBytes bs (playback_channels (result_ok r) (replicate 8 0))
+plays_checked bs (Ok r) one none d = plays_bytes bs r _ one none d (plays_first r)
+plays_checked bs (Err e) one none x = plays_nothing bs e none x

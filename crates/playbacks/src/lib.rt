@@ -1,8 +1,8 @@
 // Playbacks: a recording as a bank, in which each channel goes down the rows by itself.
 #![tactic(auto)]
 
+mod columns;
 mod playing;
-mod rows;
 
 use banks::Bank;
 pub use playing::Playback;

@@ -1,23 +1,20 @@
 // A recording as a bank.
-ghost use Rattle.std.specs.Prelude.{◌≡◌, ◌<◌, ◌≤◌, [], length, if◌then◌else◌, nat_le, slice_set};
-ghost use Rattle.banks.specs.Banks.{of_channel};
-ghost use Rattle.playbacks.specs.Playing.{PlayedBytes, Plays, few_entries, playback_channels};
+ghost use Rattle.std.specs.Prelude.{◌≡◌, ◌<◌, ◌≤◌, [], length, if◌then◌else◌, nat_le};
+ghost use Rattle.playbacks.specs.Columns.{Found};
+ghost use Rattle.playbacks.specs.Playing.{PlayedBytes, Plays, playback_channels};
 ghost use Rattle.playbacks.specs.PlayingLaws.{playback_laws};
 ghost use Rattle.recordings.specs.Contents.{entries_of, rows_of};
-ghost use Rattle.std.specs.List.{slice_get};
 
-use crate::rows::read_row;
+use crate::columns::{Column, MOST};
 use banks::{Bank, BankFault};
-use heads::{Figures, HeadFault, Plate};
-use recordings::{ChannelEntry, Recording};
-
-/// The most channels that a recording has.
-const MOST: usize = 8;
+use heads::Figures;
+use recordings::Recording;
 
 /// A recording that is read, or none; each channel stands at a row of its own.
 #[derive(Clone, Copy)]
 pub struct Playback<'a> {
     recording: Option<Recording<'a>>,
+    // An array of all rows that may be: no heap.
     rows: [usize; MOST],
 }
 
@@ -37,24 +34,20 @@ impl<'a> Playback<'a> {
     pub fn of(bytes: &'a [u8]) -> Playback<'a>
         ensures { PlayedBytes bytes.now (playback_channels result.recording result.rows) }
     {
-        match Recording::check(bytes) {
-            Ok(recording) => Playback::new(recording),
-            Err(_) => Playback {
-                recording: None,
-                rows: [0; MOST],
-            },
+        Playback {
+            recording: Recording::check(bytes).ok(),
+            rows: [0; MOST],
         }
     }
-}
 
-// The entry of a channel, of a recording with few enough.
-fn entry_of(recording: &Recording, channel: usize) -> Option<ChannelEntry>
-    ensures { result ≡ slice_get (few_entries recording.now) channel }
-{
-    if recording.channel_count() > MOST {
-        return None;
+    // The column of a channel that is played.
+    fn column(&self, channel: usize) -> Result<Column<'a>, BankFault>
+        ensures { Found self.now.recording channel result }
+    {
+        self.recording
+            .and_then(|recording| Column::of(recording, channel))
+            .ok_or(BankFault::NoSuchChannel { channel })
     }
-    recording.entry(channel)
 }
 
 // How many channels are played of so many.
@@ -64,56 +57,24 @@ fn few(channels: usize) -> usize
     if channels <= MOST { channels } else { 0 }
 }
 
-// Sets the row at which a channel stands.
-fn set_row(rows: &mut [usize], channel: usize, at: usize)
-    requires { channel < length rows.old }
-    ensures { rows.new ≡ slice_set rows.old channel at }
-{
-    rows[channel] = at;
-}
-
-// A head's answer as that of a channel.
-fn of_channel(channel: usize, answer: Result<u32, HeadFault>) -> Result<u32, BankFault>
-    ensures { result ≡ of_channel channel answer }
-{
-    match answer {
-        Ok(reading) => Ok(reading),
-        Err(fault) => Err(BankFault::Refused { channel, fault }),
-    }
-}
-
 impl<'a> Bank for Playback<'a> {
     ghost channels = { λ s. playback_channels s.recording s.rows };
 
     ghost laws = { λ s. playback_laws s.recording s.rows };
 
     fn count(&self) -> usize {
-        match &self.recording {
-            None => 0,
-            Some(recording) => few(recording.channel_count()),
-        }
+        self.recording
+            .map_or(0, |recording| few(recording.channel_count()))
     }
 
     fn figures(&self, channel: usize) -> Result<Figures, BankFault> {
-        match &self.recording {
-            None => Err(BankFault::NoSuchChannel { channel }),
-            Some(recording) => match entry_of(recording, channel) {
-                None => Err(BankFault::NoSuchChannel { channel }),
-                Some(entry) => Ok(entry.figures()),
-            },
-        }
+        let column = self.column(channel)?;
+        Ok(column.figures())
     }
 
     fn read(&mut self, channel: usize) -> Result<u32, BankFault> {
-        let Some(recording) = self.recording else {
-            return Err(BankFault::NoSuchChannel { channel });
-        };
-        let Some(entry) = entry_of(&recording, channel) else {
-            return Err(BankFault::NoSuchChannel { channel });
-        };
-        let mut at = self.rows[channel];
-        let answer = read_row(&recording, channel, entry, &mut at);
-        set_row(&mut self.rows, channel, at);
-        of_channel(channel, answer)
+        let column = self.column(channel)?;
+        let answer = column.read(&mut self.rows[channel]);
+        answer.map_err(|fault| BankFault::Refused { channel, fault })
     }
 }

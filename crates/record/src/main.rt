@@ -2,19 +2,12 @@
 #![tactic(auto)]
 
 use anyhow::anyhow;
+use programs::{Program, serve};
 use sheets::{BadSheet, RecordError, Sheet};
 use std::alloc::Global;
-use std::env;
 use std::io::{BufRead, BufReader, Write};
 use std::process::ExitCode;
 use tables::refusal_line;
-
-const USAGE: &str = "usage: record < TABLE > RECORDING
-Reads a table of moduli, bounds and rows, and writes its recording.
-What the writer refuses is told on standard error, as
-  refused 43 channel 1 depth 0
-and then, as with bad text, nothing is written and the status is 1.
-";
 
 /// The report of a line with bad text.
 fn at_line(number: u64, bad: BadSheet) -> anyhow::Error {
@@ -25,7 +18,7 @@ fn at_line(number: u64, bad: BadSheet) -> anyhow::Error {
 fn not_recorded(heap: Global, error: RecordError) -> anyhow::Error {
     match error {
         RecordError::NoMemory => anyhow!("record: out of memory"),
-        RecordError::Refused(refusal) => match refusal_line(heap, refusal.fault()) {
+        RecordError::Refused(refusal) => match refusal_line(heap, refusal.into()) {
             Ok(text) => anyhow!("{text}"),
             Err(e) => e.into(),
         },
@@ -33,52 +26,48 @@ fn not_recorded(heap: Global, error: RecordError) -> anyhow::Error {
 }
 
 /// The recording of a table.
-fn record<B: BufRead + Drop>(heap: Global, input: B) -> anyhow::Result<Vec<u8>> {
+fn recording<B: BufRead + Drop>(heap: Global, input: B) -> anyhow::Result<Vec<u8>> {
     let mut sheet = Sheet::new(heap);
+    // Counted here, and not by the iterator, since the end of the input has a number too.
     let mut number: u64 = 1;
     for line in input.split(heap, b'\n') {
-        sheet = match sheet.line(line?.as_slice()) {
-            Ok(sheet) => sheet,
-            Err(bad) => return Err(at_line(number, bad)),
-        };
+        sheet = sheet
+            .line(line?.as_slice())
+            .map_err(|bad| at_line(number, bad))?;
         number = number.saturating_add(1);
     }
-    if let Err(bad) = sheet.end() {
-        return Err(at_line(number, bad));
-    }
-    match sheet.record(heap) {
-        Ok(bytes) => Ok(bytes),
-        Err(error) => Err(not_recorded(heap, error)),
-    }
+    sheet.end().map_err(|bad| at_line(number, bad))?;
+    sheet
+        .record(heap)
+        .map_err(|error| not_recorded(heap, error))
 }
 
-fn run(rt: &HostRuntime) -> anyhow::Result<()> {
-    let mut args = env::args(rt)?;
-    let _ = args.next();
-    match args.next() {
-        None => {
-            let bytes = record(rt.alloc(), BufReader::new(rt.alloc(), rt.stdin())?)?;
-            let mut out = rt.stdout();
-            out.write_all(bytes.as_slice())?;
-            out.flush()?;
-            Ok(())
-        }
-        Some(arg) if arg.as_str() == "--help" => {
-            rt.print(USAGE)?;
-            Ok(())
-        }
-        Some(_) => Err(anyhow!("record: unknown argument; --help tells the usage")),
+struct Record;
+
+impl Program<HostRuntime> for Record {
+    const NAME: &'static str = "record";
+
+    // A refusal is told by its line alone.
+    const PREFIX: &'static str = "";
+
+    const USAGE: &'static str = "usage: record < TABLE > RECORDING
+Reads a table of moduli, bounds and rows, and writes its recording.
+What the writer refuses is told on standard error, as
+  refused 43 channel 1 depth 0
+and then, as with bad text, nothing is written and the status is 1.
+";
+
+    fn job(rt: &HostRuntime) -> anyhow::Result<()> {
+        let bytes = recording(rt.alloc(), BufReader::new(rt.alloc(), rt.stdin())?)?;
+        let mut out = rt.stdout();
+        out.write_all(bytes.as_slice())?;
+        out.flush()?;
+        Ok(())
     }
 }
 
 fn main(rt: HostRuntime) -> ExitCode {
-    match run(&rt) {
-        Ok(()) => ExitCode::SUCCESS,
-        Err(e) => {
-            let _ = eprintln!(rt; "{e}");
-            ExitCode::FAILURE
-        }
-    }
+    serve::<Record, _>(&rt)
 }
 
 #[cfg(test)]
@@ -88,7 +77,7 @@ mod tests {
 
     // What is reported of a table that is not recorded.
     fn report(heap: Global, table: &[u8]) -> Result<String, Fail> {
-        match record(heap, table) {
+        match recording(heap, table) {
             Ok(_) => Err(Fail::new("recorded")),
             Err(e) => Ok(e.to_string(heap)?),
         }

@@ -1,8 +1,10 @@
 -- Rows, columns and entries by their numbers.
-use Rattle.std.proofs.Common.{◌≡◌, ℕ, zero, suc, ◌+◌, ◌*◌, ◌/◌, ◌<◌, ◌≤◌, true, cond, ltb, List, length, get_or, Some, None, sym, refl, ap, ◌∙◌, mul-le-mul_right, add-mul, zero-add, div-mul-le_self, arith}
+use Rattle.std.proofs.Common.{◌≡◌, ℕ, zero, suc, ◌+◌, ◌*◌, ◌/◌, ◌<◌, ◌≤◌, true, cond, ltb, List, length, get_or, is_some, Some, None, IfSome, Option, sym, refl, ap, ◌∙◌, mul-le-mul_right, add-mul, zero-add, div-mul-le_self, arith}
+use Rattle.std.proofs.Math.Nat.{div-zero}
 use Rattle.std.specs.List.{slice_get}
+use Rattle.std.specs.Option.{SomeIff, unwrap_or}
 use Rattle.std.proofs.lemmas.Option.{slice_get-get_or, slice_get_past}
-use Rattle.std.proofs.lemmas.Bool.{le-ltb, lt-ltb}
+use Rattle.std.proofs.lemmas.Bool.{lt-ltb, ltb-false, ltb-true}
 use Rattle.recordings.specs.declared.entries.ChannelEntry.{ChannelEntry}
 use Rattle.recordings.specs.declared.recording.Recording.{Recording}
 use Rattle.recordings.specs.Numbers.{number_from, numbers_in}
@@ -35,6 +37,16 @@ entry_found bs k h =
     let t = number_at bs (2 * k + 1) (omega arith) ∙ ap (number_from bs) a1 in
     slice_get-get_or (entries_in (numbers_in bs)) k d (omega arith) ∙ ap Some (cc)
 
+-- what is told of entry k: the entry of its bytes, if there are any
+pub entry_told : (bs : List ℕ) (k : ℕ) (o : Option ChannelEntry) → is_some o ≡ ltb k (length (entries_in (numbers_in bs))) → IfSome o (λ e. e ≡ entry_from bs (8 * k)) → o ≡ slice_get (entries_in (numbers_in bs)) k
+entry_told bs k None v s = sym (slice_get_past (entries_in (numbers_in bs)) k (ltb-false k _ (sym v)))
+entry_told bs k (Some e) v s = let l = ltb-true k _ (sym v) in ap Some s ∙ sym (entry_found bs k (omega (arith, length_entries_in bs)))
+
+-- what is told of m numbers in rows of n
+pub rows_told : (o : Option ℕ) (m n : ℕ) → SomeIff o (0 < n) (m / n) → unwrap_or o 0 ≡ m / n
+rows_told None m n h = let z : n ≡ 0 = omega arith in rw z (sym (div-zero m))
+rows_told (Some q) m n h = h.1
+
 -- the place of a row's channel is among the numbers
 pub place_below : (n c i k : ℕ) → i < n / c → k < c → i * c + k < n
 place_below n c i k hi hk =
@@ -42,26 +54,22 @@ place_below n c i k hi hk =
     let b = div-mul-le_self n c in
     omega (arith, add-mul i 1 c)
 
-pub number_found : (r : Recording) (bs : List ℕ) (c i k : ℕ) → bs ≡ r.rows.now → c ≡ length (entries_of r) → k < c → i < length (rows_of r) / c → number_told r i k ≡ Some (number_from bs (4 * (i * c + k)))
-number_found r bs c i k eb ec hk hi =
-    let xs = rows_of r in
-    let n = length xs / c in
-    let ln = length_numbers bs in
-    let lx : length xs ≡ length bs / 4 = ap (λ z. length (numbers_in z)) (sym eb) ∙ ln in
-    let below : i * c + k < length xs = place_below (length xs) c i k hi hk in
-    let le : length (column_of r k) ≡ length xs / length (entries_of r) = length_column xs (length (entries_of r)) k 0 _ in
-    let lc : length xs / c ≡ length xs / length (entries_of r) = ap (λ z. length xs / z) ec in
-    let t : ltb k (length (entries_of r)) ≡ true = lt-ltb k _ (omega arith) in
-    let z : (0 + i) * c + k ≡ i * c + k = ap (λ u. u * c + k) (zero-add i) in
-    let at : get_or (column_of r k) i 0 ≡ get_or xs (i * c + k) 0 =
-    in_column xs (length (entries_of r)) k 0 _ i (omega arith) ∙ ap (λ u. get_or xs ((0 + i) * u + k) 0) (sym ec) ∙ ap (λ u. get_or xs u 0) z in
-    let num : get_or xs (i * c + k) 0 ≡ number_from bs (4 * (i * c + k)) = ap (λ u. get_or (numbers_in u) (i * c + k) 0) (sym eb) ∙ number_at bs (i * c + k) (omega arith) in
-    ap (λ b. cond b (slice_get (column_of r k) i) None) t ∙ slice_get-get_or (column_of r k) i 0 (omega arith) ∙ ap Some (at ∙ num)
+-- the number of a row and a channel, where the code counted n rows and c channels
+module _ (r : Recording) (c n i k : ℕ) (ec : c ≡ length (entries_of r)) (en : n ≡ length (rows_of r) / length (entries_of r)) (hi : i < n) (hk : k < c) where
+  pub place_within : i * c + k < length (rows_of r)
+  place_within = let e : n ≡ length (rows_of r) / c = en ∙ ap (λ z. length (rows_of r) / z) (sym ec) in place_below (length (rows_of r)) c i k (omega arith) hk
 
-pub no_channel : (r : Recording) (i k : ℕ) → length (entries_of r) ≤ k → number_told r i k ≡ None
-no_channel r i k h = ap (λ b. cond b (slice_get (column_of r k) i) None) (le-ltb k _ h)
+  pub number_within : 4 * (i * c + k) + 4 ≤ length r.rows.now
+  number_within = omega (arith, place_within, length_numbers r.rows.now)
 
-pub no_row : (r : Recording) (i k : ℕ) → k < length (entries_of r) → length (rows_of r) / length (entries_of r) ≤ i → number_told r i k ≡ None
-no_row r i k hk hi =
-    let le = length_column (rows_of r) (length (entries_of r)) k 0 (length (rows_of r) / length (entries_of r)) in
-    ap (λ b. cond b (slice_get (column_of r k) i) None) (lt-ltb k _ hk) ∙ slice_get_past (column_of r k) i (omega arith)
+  pub number_found : number_told r i k ≡ Some (number_from r.rows.now (4 * (i * c + k)))
+  number_found =
+      let xs = rows_of r in
+      let w = place_within in
+      let le : length (column_of r k) ≡ n = length_column xs (length (entries_of r)) k 0 _ ∙ sym en in
+      let t : ltb k (length (entries_of r)) ≡ true = lt-ltb k _ (omega arith) in
+      let z : (0 + i) * c + k ≡ i * c + k = ap (λ u. u * c + k) (zero-add i) in
+      let at : get_or (column_of r k) i 0 ≡ get_or xs (i * c + k) 0 =
+      in_column xs (length (entries_of r)) k 0 _ i (omega arith) ∙ ap (λ u. get_or xs ((0 + i) * u + k) 0) (sym ec) ∙ ap (λ u. get_or xs u 0) z in
+      let num : get_or xs (i * c + k) 0 ≡ number_from r.rows.now (4 * (i * c + k)) = number_at r.rows.now (i * c + k) (omega (arith, length_numbers r.rows.now)) in
+      ap (λ b. cond b (slice_get (column_of r k) i) None) t ∙ slice_get-get_or (column_of r k) i 0 (omega arith) ∙ ap Some (at ∙ num)

@@ -3,5 +3,5 @@ pub mod Pairs
 pub mod Places
 pub mod Meanings
 mod Passing
-mod Columns
+pub mod Columns
 mod Firsts

@@ -1,17 +1,19 @@
 -- Bytes that pass every check are a recording.
-use Rattle.std.proofs.Common.{◌≡◌, ℕ, ◌+◌, ◌-◌, ◌*◌, ◌/◌, ◌<◌, ◌≤◌, true, false, ◌&&◌, eqb, leb, List, [], ◌∷◌, ◌++◌, length, get_or, take, drop, sym, ap, ◌∙◌, arith}
+use Rattle.std.proofs.Common.{◌≡◌, ℕ, ◌+◌, ◌-◌, ◌*◌, ◌/◌, ◌<◌, ◌≤◌, List, [], ◌∷◌, ◌++◌, length, get_or, take, drop, sym, ap, ◌∙◌, subst, arith}
 use native.Mathlib.Nat.{div-eq_of_eq-mul_left}
 use Rattle.std.specs.List.{flat_map, AllByRecursion}
 use Rattle.std.proofs.lemmas.List.{drop_all, drop-drop, get_or-take, get_or-drop, length-drop, length-take-le, take-append-drop}
+use Rattle.std.proofs.lemmas.List.Concat.{flat_map-append}
 use Rattle.std.proofs.ByRecursion.{All-drop, All-from_get_or, All-take}
-use Rattle.std.proofs.lemmas.Bool.{and_from, and_parts, both_ways, eq-eqb, eqb-true, le-leb, leb-true}
+use Rattle.std.proofs.lemmas.Option.{get_or_from_slice_get}
 use Rattle.recordings.specs.declared.entries.ChannelEntry.{ChannelEntry}
 use Rattle.recordings.specs.Numbers.{bytes_of, number_from, numbers_in}
 use Rattle.recordings.specs.Layout.{pair_of, EntryFits, place_of, ending, encoded, Records}
 use Rattle.recordings.specs.Contents.{entry_from, entries_in}
-use Rattle.recordings.specs.Refusals.{place_in, row_count_in, channel_count_in, edition_in, Counted, PlacesAgree, FitsFrom, UnfitFirst}
-use Rattle.recordings.proofs.Words.{Byte, Word, bytes_back, joined_append, length_numbers, next_number, number_at, number_word, numbers_words}
-use Rattle.recordings.proofs.Pairs.{entry_of_numbers, length_entries, pairs_back}
+use Rattle.recordings.specs.Refusals.{place_in, row_count_in, channel_count_in, edition_in, rows_place_in, Counted, PlacesAgree, FitsFrom, UnfitFirst}
+use Rattle.recordings.proofs.Words.{Byte, Word, bytes_back, length_numbers, next_number, number_word, numbers_words}
+use Rattle.recordings.proofs.Pairs.{length_entries, pairs_back}
+use Rattle.recordings.proofs.Columns.{entry_found, length_entries_in}
 
 -- the number at place q of a part
 pub number_in_part : (p n q : ℕ) (bs : List ℕ) → q + 4 ≤ n → number_from (take n (drop p bs)) q ≡ number_from bs (p + q)
@@ -32,20 +34,21 @@ length_entries_part p c bs h =
     let l : length (take (8 * c) (drop p bs)) ≡ 8 * c = length-take-le _ _ (simp length-drop (omega arith)) in
     omega (arith, length_entries (numbers_in (take (8 * c) (drop p bs))), length_numbers (take (8 * c) (drop p bs)))
 
-pub entry_in_part : (p c k : ℕ) (bs : List ℕ) (d : ChannelEntry) → p + 8 * c ≤ length bs → k < c → get_or (entries_in (numbers_in (take (8 * c) (drop p bs)))) k d ≡ entry_from bs (p + 8 * k)
-entry_in_part p c k bs d h lt =
-    let es = take (8 * c) (drop p bs) in
-    let l : length es ≡ 8 * c = length-take-le _ _ (simp length-drop (omega arith)) in
-    let ln = length_numbers es in
-    let m : get_or (numbers_in es) (2 * k) 0 ≡ number_from bs (p + 8 * k) =
-    let e : 4 * (2 * k) ≡ 8 * k = omega arith in
-    number_at es (2 * k) (omega arith) ∙ ap (number_from es) e ∙ number_in_part p (8 * c) (8 * k) bs (omega arith) in
-    let t : get_or (numbers_in es) (2 * k + 1) 0 ≡ number_from bs (p + 8 * k + 4) =
-    let e : 4 * (2 * k + 1) ≡ 8 * k + 4 = omega arith in
-    let a : p + (8 * k + 4) ≡ p + 8 * k + 4 = omega arith in
-    number_at es (2 * k + 1) (omega arith) ∙ ap (number_from es) e ∙ number_in_part p (8 * c) (8 * k + 4) bs (omega arith) ∙ ap (number_from bs) a in
-    let e = entry_of_numbers (numbers_in es) k d (omega arith) in
+pub entry_of_part : (p n q : ℕ) (bs : List ℕ) → q + 8 ≤ n → entry_from (take n (drop p bs)) q ≡ entry_from bs (p + q)
+entry_of_part p n q bs h =
+    let m = number_in_part p n q bs (omega arith) in
+    let t = number_in_part p n (q + 4) bs (omega arith) in
+    let a : p + (q + 4) ≡ p + q + 4 = omega arith in
     cc
+
+-- every entry of a part is fit
+fit_entries : (ents : List ℕ) → ((k : ℕ) → k < length ents / 8 → FitsFrom ents (8 * k)) → AllByRecursion EntryFits (entries_in (numbers_in ents))
+fit_entries ents fit =
+    let es = entries_in (numbers_in ents) in
+    let d : ChannelEntry = record { modulus = 0; bound = 0 } in
+    let l = length_entries_in ents in
+    All-from_get_or EntryFits es d
+    (λ k h. let lt : k < length ents / 8 = omega arith in rw (get_or_from_slice_get es k (entry_from ents (8 * k)) d (entry_found ents k lt)) (fit k lt))
 
 -- the last 16 bytes are those of the last four numbers
 ending_bytes : (bs : List ℕ) → ((i : ℕ) → Byte (get_or bs i 0)) → 16 ≤ length bs
@@ -62,25 +65,12 @@ ending_bytes bs h l =
     let z : drop (n - 4 + 4) bs ≡ [] = drop_all _ bs (omega arith) in
     cc
 
--- what the test of the places says
-pub places_agree : (bs : List ℕ) (p n c : ℕ) → p ≡ place_in bs → n ≡ row_count_in bs → c ≡ channel_count_in bs → (eqb (p + 8 * c + 16) (length bs) && leb (4 * (n * c)) p) ≡ true → PlacesAgree bs
-places_agree bs p n c ep en ec h =
-    let both = and_parts (eqb (p + 8 * c + 16) (length bs)) _ h in
-    let e = eqb-true _ _ both.0 in
-    let l = leb-true _ _ both.1 in
-    let m : 4 * (n * c) ≡ 4 * (row_count_in bs * channel_count_in bs) = cc in
-    record { ends = omega arith; rows_fit = omega arith }
-
-pub places_disagree : (bs : List ℕ) (p n c : ℕ) → p ≡ place_in bs → n ≡ row_count_in bs → c ≡ channel_count_in bs → (eqb (p + 8 * c + 16) (length bs) && leb (4 * (n * c)) p) ≡ false → PlacesAgree bs → ⊥
-places_disagree bs p n c ep en ec h a =
-    let m : 4 * (n * c) ≡ 4 * (row_count_in bs * channel_count_in bs) = cc in
-    both_ways _ h (and_from _ _ (eq-eqb (p + 8 * c + 16) (length bs) (omega (arith, a.ends))) (le-leb (4 * (n * c)) p (omega (arith, a.rows_fit))))
-
 -- every check passes: the bytes record what stands in their parts
-pub passing : (bs : List ℕ) (a : ℕ) → ((i : ℕ) → Byte (get_or bs i 0)) → Counted bs → PlacesAgree bs → a ≡ place_in bs - 4 * (row_count_in bs * channel_count_in bs)
-    → ((k : ℕ) → k < channel_count_in bs → FitsFrom bs (place_in bs + 8 * k))
-    → Records bs (take a bs) (numbers_in (take (place_in bs - a) (drop a bs))) (entries_in (numbers_in (take (8 * channel_count_in bs) (drop (place_in bs) bs))))
-passing bs a small counted agree start fit =
+passing : (bs : List ℕ) → ((i : ℕ) → Byte (get_or bs i 0)) → Counted bs → PlacesAgree bs
+    → (let ents = take (8 * channel_count_in bs) (drop (place_in bs) bs) in (k : ℕ) → k < length ents / 8 → FitsFrom ents (8 * k))
+    → Records bs (take (rows_place_in bs) bs) (numbers_in (take (place_in bs - rows_place_in bs) (drop (rows_place_in bs) bs))) (entries_in (numbers_in (take (8 * channel_count_in bs) (drop (place_in bs) bs))))
+passing bs small counted agree fit =
+    let a = rows_place_in bs in
     let p = place_in bs in
     let c = channel_count_in bs in
     let n = row_count_in bs in
@@ -114,7 +104,7 @@ passing bs a small counted agree start fit =
     let s1 : ents ++ drop (length bs - 16) bs ≡ drop p bs = ap (λ z. ents ++ z) (sym d1) ∙ take-append-drop (8 * c) (drop p bs) in
     let s2 : rows ++ drop p bs ≡ drop a bs = ap (λ z. rows ++ z) (sym d2) ∙ take-append-drop (p - a) (drop a bs) in
     let whole : encoded (take a bs) xs es ≡ bs =
-    ap (λ z. take a bs ++ z) (joined_append bytes_of xs _ ∙ ap (λ z. flat_map bytes_of xs ++ z) (joined_append bytes_of (flat_map pair_of es) _))
+    ap (λ z. take a bs ++ z) (flat_map-append bytes_of xs _ ∙ ap (λ z. flat_map bytes_of xs ++ z) (flat_map-append bytes_of (flat_map pair_of es) _))
     ∙ ap (λ z. take a bs ++ (z ++ (flat_map bytes_of (flat_map pair_of es) ++ flat_map bytes_of (ending (take a bs) xs es)))) brows
     ∙ ap (λ z. take a bs ++ (rows ++ (z ++ flat_map bytes_of (ending (take a bs) xs es)))) bents
     ∙ ap (λ z. take a bs ++ (rows ++ (ents ++ z))) bend
@@ -122,28 +112,39 @@ passing bs a small counted agree start fit =
     ∙ ap (λ z. take a bs ++ z) s2
     ∙ take-append-drop a bs in
     let low : Word p = number_word _ _ _ _ (small (length bs - 16)) (small (length bs - 16 + 1)) (small (length bs - 16 + 2)) (small (length bs - 16 + 3)) in
-    let d : ChannelEntry = record { modulus = 0; bound = 0 } in
     record {
       recordable = record {
         some = omega arith;
         few = omega (arith, counted.few);
         whole = lxs ∙ ap (λ z. z * c) (sym count) ∙ ap (λ z. length xs / length es * z) (sym les);
         small = numbers_words rows (All-take Byte _ _ (All-drop Byte a bs all));
-        fit = All-from_get_or EntryFits es d (λ k h. rw (entry_in_part p c k bs d (omega arith) (omega arith)) (fit k (omega arith)));
+        fit = fit_entries ents fit;
         reached = omega arith;
       };
       bytes_are = sym whole;
     }
 
--- the same, of the numbers and the parts that the code has
-pub passed : (bs note rows ents : List ℕ) (p n c a : ℕ) → p ≡ place_in bs → n ≡ row_count_in bs → c ≡ channel_count_in bs
-    → ((i : ℕ) → Byte (get_or bs i 0)) → Counted bs → PlacesAgree bs
-    → ((k : ℕ) → k < c → FitsFrom bs (p + 8 * k))
-    → a ≡ p - 4 * (n * c) → note ≡ take a bs → rows ≡ take (p - a) (drop a bs) → ents ≡ take (p + 8 * c - p) (drop p bs)
+-- the same, of the parts that the code has
+pub passed : (bs note rows ents : List ℕ) → ((i : ℕ) → Byte (get_or bs i 0)) → Counted bs → PlacesAgree bs
+    → note ≡ take (rows_place_in bs) bs → rows ≡ take (place_in bs - rows_place_in bs) (drop (rows_place_in bs) bs) → ents ≡ take (8 * channel_count_in bs) (drop (place_in bs) bs)
+    → ((k : ℕ) → k < length ents / 8 → FitsFrom ents (8 * k))
     → Records bs note (numbers_in rows) (entries_in (numbers_in ents))
-passed bs note rows ents p n c a ep en ec small counted agree fit ea enote erows eents =
-    let e8 : p + 8 * c - p ≡ 8 * c = omega arith in
-    rw (enote, erows, eents, e8, ep, ec) (passing bs a small counted agree (ea ∙ ap (λ z. z - 4 * (n * c)) ep ∙ ap (λ z. place_in bs - 4 * (z * c)) en ∙ ap (λ z. place_in bs - 4 * (row_count_in bs * z)) ec) (λ k h. rw (← ep) (fit k (omega arith))))
+passed bs note rows ents small counted agree enote erows eents fit =
+    rw (enote, erows, eents) (passing bs small counted agree (rw eents at fit))
 
-pub unfit_at : (bs : List ℕ) (p c q d k : ℕ) → p ≡ q → c ≡ d → UnfitFirst bs p c k → UnfitFirst bs q d k
-unfit_at bs p c q d k e f h = rw (← e, ← f) h
+-- and an entry that is unfit in its part is unfit in the bytes
+pub unfit_at : (bs ents : List ℕ) (k : ℕ) → PlacesAgree bs → ents ≡ take (8 * channel_count_in bs) (drop (place_in bs) bs)
+    → UnfitFirst ents 0 (length ents / 8) k → UnfitFirst bs (place_in bs) (channel_count_in bs) k
+unfit_at bs ents k agree e u =
+    let p = place_in bs in
+    let c = channel_count_in bs in
+    let ends : p + 8 * c + 16 ≡ length bs = agree.ends in
+    let l : length ents ≡ 8 * c = ap length e ∙ length-take-le _ _ (simp length-drop (omega arith)) in
+    let same : (i : ℕ) → i < c → entry_from ents (0 + 8 * i) ≡ entry_from bs (p + 8 * i) =
+    λ i h. let z : p + (0 + 8 * i) ≡ p + 8 * i = omega arith in ap (λ es. entry_from es (0 + 8 * i)) e ∙ entry_of_part p (8 * c) (0 + 8 * i) bs (omega arith) ∙ ap (entry_from bs) z in
+    let lt : k < c = omega (arith, u.within) in
+    record {
+      within = lt;
+      fit_before = λ i h. subst EntryFits (same i (omega arith)) (u.fit_before i h);
+      unfit = λ f. u.unfit (subst EntryFits (sym (same k lt)) f);
+    }

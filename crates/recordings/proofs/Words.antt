@@ -1,8 +1,8 @@
 -- Numbers and their bytes, there and back.
-use Rattle.std.proofs.Common.{◌≡◌, ℕ, zero, suc, ◌+◌, ◌-◌, ◌*◌, ◌/◌, ◌%◌, ◌^◌, ◌<◌, ◌≤◌, List, [], ◌∷◌, ◌++◌, length, get_or, drop, sym, refl, ap, ◌∙◌, add_assoc, mod-eq_of_lt, div-add-mod', arith}
-use native.Mathlib.Nat.{div-div-eq-div-mul}
+use Rattle.std.proofs.Common.{◌≡◌, ℕ, zero, suc, ◌+◌, ◌-◌, ◌*◌, ◌/◌, ◌%◌, ◌^◌, ◌<◌, ◌≤◌, List, [], ◌∷◌, ◌++◌, length, get_or, drop, sym, refl, ap, ◌∙◌, add_assoc, arith}
 use Rattle.std.specs.List.{flat_map, AllByRecursion}
-use Rattle.std.proofs.lemmas.List.{append_assoc, get_or-append-add, get_or-drop, drop_more}
+use Rattle.std.proofs.lemmas.List.{get_or-append-add, drop_more}
+use Rattle.std.proofs.lemmas.Nat.{from_le_bytes-to_le_bytes_4}
 use Rattle.recordings.specs.Numbers.{bytes_of, number_of, number_from, numbers_in}
 
 abbrev pub Byte : ℕ → Type 0
@@ -23,14 +23,7 @@ bytes_of_number a b c d ha hb hc hd =
     cc
 
 pub number_of_bytes : (x : ℕ) → Word x → number_of (x % 256) (x / 256 % 256) (x / 65536 % 256) (x / 16777216 % 256) ≡ x
-number_of_bytes x h =
-    let q2 : x / 256 / 256 ≡ x / 65536 = div-div-eq-div-mul x 256 256 in
-    let q3 : x / 65536 / 256 ≡ x / 16777216 = div-div-eq-div-mul x 65536 256 in
-    let e0 = div-add-mod' x 256 in
-    let e1 = div-add-mod' (x / 256) 256 in
-    let e2 = div-add-mod' (x / 65536) 256 in
-    let e3 : x / 16777216 % 256 ≡ x / 16777216 = mod-eq_of_lt (omega arith) in
-    omega arith
+number_of_bytes x h = from_le_bytes-to_le_bytes_4 x h
 
 pub number_word : (a b c d : ℕ) → Byte a → Byte b → Byte c → Byte d → Word (number_of a b c d)
 number_word a b c d ha hb hc hd = omega arith
@@ -82,9 +75,6 @@ number_at (a ∷ b ∷ c ∷ d ∷ bs) (suc i) h =
     let e : 4 + 4 * i ≡ 4 * suc i = omega arith in
     number_at bs i (omega arith) ∙ sym (number_after (a ∷ b ∷ c ∷ d ∷ []) bs (4 * i)) ∙ ap (number_from (a ∷ b ∷ c ∷ d ∷ bs)) e
 
-pub number_drop : (n : ℕ) (bs : List ℕ) (p : ℕ) → number_from (drop n bs) p ≡ number_from bs (n + p)
-number_drop n bs p = simp (get_or-drop, add_assoc)
-
 -- the bytes at place p are those of the number there
 pub next_number : (bs : List ℕ) (p : ℕ) → ((i : ℕ) → Byte (get_or bs i 0)) → p + 4 ≤ length bs → bytes_of (number_from bs p) ++ drop (p + 4) bs ≡ drop p bs
 next_number bs p h l =
@@ -97,7 +87,3 @@ next_number bs p h l =
     let a2 : p + 2 + 1 ≡ p + 3 = omega arith in
     let a3 : p + 3 + 1 ≡ p + 4 = omega arith in
     ap (λ z. z ++ drop (p + 4) bs) e ∙ cc
-
-pub joined_append : {X : Type 0} (f : X → List ℕ) (xs ys : List X) → flat_map f (xs ++ ys) ≡ flat_map f xs ++ flat_map f ys
-joined_append f [] ys = refl
-joined_append f (x ∷ xs) ys = ap (λ z. f x ++ z) (joined_append f xs ys) ∙ sym (append_assoc (f x) (flat_map f xs) (flat_map f ys))

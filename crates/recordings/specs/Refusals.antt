@@ -1,5 +1,5 @@
 -- Each refusal's number and fields, and when it is the answer. Assumes nothing.
-use Rattle.std.specs.Prelude.{◌≡◌, ℕ, ◌+◌, ◌-◌, ◌*◌, ◌<◌, ◌≤◌, List, length, Ok, Err, Result, ◌≢◌}
+use Rattle.std.specs.Prelude.{◌≡◌, ℕ, ◌+◌, ◌-◌, ◌*◌, ◌<◌, ◌≤◌, List, length, take, drop, Ok, Err, Result, ◌≢◌}
 use Rattle.records.specs.declared.faults.Fault.{Fault}
 use Rattle.recordings.specs.declared.recording.Recording.{Recording}
 use Rattle.recordings.specs.declared.refusals.CheckRefusal.{CheckRefusal}
@@ -65,6 +65,18 @@ CheckRefused bs Edition = (16 ≤ length bs) × (edition_in bs ≢ 1)
 CheckRefused bs Channels = OfEdition bs × (1 ≤ channel_count_in bs → channel_count_in bs ≤ 8 → ⊥)
 CheckRefused bs Places = Counted bs × (PlacesAgree bs → ⊥)
 CheckRefused bs (UnfitEntry k) = Counted bs × PlacesAgree bs × UnfitFirst bs (place_in bs) (channel_count_in bs) k
+
+-- where the rows begin
+abbrev pub rows_place_in : List ℕ → ℕ
+rows_place_in bs = place_in bs - 4 * (row_count_in bs * channel_count_in bs)
+
+-- bytes whose places agree, cut where the rows and the entries begin and end
+pub record IsCut (bs : List ℕ) (r : Recording) : Type 0 where
+  pub counted : Counted bs
+  pub agree : PlacesAgree bs
+  pub note_is : r.note.now ≡ take (rows_place_in bs) bs
+  pub rows_are : r.rows.now ≡ take (place_in bs - rows_place_in bs) (drop (rows_place_in bs) bs)
+  pub entries_are : r.entries.now ≡ take (8 * channel_count_in bs) (drop (place_in bs) bs)
 
 -- what the check answers: the note, rows and entries that the bytes record, or the first check that fails
 abbrev pub Checked : (bs : List ℕ) → Result Recording CheckRefusal → Type 0

@@ -2,7 +2,7 @@
 ghost use Rattle.std.specs.Prelude.{◌≡◌};
 ghost use Rattle.heads.specs.PhaseTables.{table_told};
 
-use heads::{Figures, Plate, fitness};
+use heads::{Figures, Plate};
 
 /// A channel's modulus and bound, as a recording has them. It is a plate of
 /// depth 0, and no head: an entry has no rows of its own to read.
@@ -16,20 +16,6 @@ impl Plate for ChannelEntry {
     ghost told = { λ s. table_told s.modulus s.bound };
 
     fn figures(&self) -> Figures {
-        if fitness(self.modulus, self.bound) {
-            Figures {
-                fit: true,
-                modulus: self.modulus,
-                bound: self.bound,
-                depth: 0,
-            }
-        } else {
-            Figures {
-                fit: false,
-                modulus: 1,
-                bound: 0,
-                depth: 0,
-            }
-        }
+        Figures::foot(self.modulus, self.bound)
     }
 }

@@ -3,34 +3,25 @@ ghost use Rattle.std.specs.Prelude.{◌≡◌, ◌+◌, ◌*◌, ◌≤◌, leng
 ghost use Rattle.recordings.specs.Contents.{entry_from};
 ghost use Rattle.recordings.specs.Numbers.{number_from};
 
-use crate::ChannelEntry;
-
-/// How many bytes a number takes.
-pub(crate) const NUMBER_BYTES: usize = 4;
-
-/// How many bytes an entry takes: two numbers.
-pub(crate) const ENTRY_BYTES: usize = 8;
+use crate::{ChannelEntry, ENTRY_BYTES, NUMBER_BYTES};
 
 /// The number whose first byte, the least, stands at this place.
 pub(crate) fn number_at(bytes: &[u8], place: usize) -> u32
-    requires { place + 4 ≤ length bytes.now }
+    requires { place + NUMBER_BYTES ≤ length bytes.now }
     ensures { result ≡ number_from bytes.now place }
 {
-    u32::from_le_bytes([
-        bytes[place],
-        bytes[place + 1],
-        bytes[place + 2],
-        bytes[place + 3],
-    ])
+    let mut number = [0; NUMBER_BYTES];
+    number.copy_from_slice(&bytes[place..place + NUMBER_BYTES]);
+    u32::from_le_bytes(number)
 }
 
-/// The entry of a channel, where the entries begin at this place: modulus, then bound.
-pub(crate) fn entry_at(bytes: &[u8], place: usize, channel: usize) -> ChannelEntry
-    requires { place + 8 * channel + 8 ≤ length bytes.now }
-    ensures { result ≡ entry_from bytes.now (place + 8 * channel) }
+/// The entry of a channel, where these are the bytes of all entries: modulus, then bound.
+pub(crate) fn entry_at(entries: &[u8], channel: usize) -> ChannelEntry
+    requires { ENTRY_BYTES * channel + ENTRY_BYTES ≤ length entries.now }
+    ensures { result ≡ entry_from entries.now (ENTRY_BYTES * channel) }
 {
-    let at = place + ENTRY_BYTES * channel;
-    let modulus = number_at(bytes, at);
-    let bound = number_at(bytes, at + NUMBER_BYTES);
+    let place = ENTRY_BYTES * channel;
+    let modulus = number_at(entries, place);
+    let bound = number_at(entries, place + NUMBER_BYTES);
     ChannelEntry { modulus, bound }
 }

@@ -19,12 +19,12 @@ pub enum CheckRefusal {
     UnfitEntry { channel: usize },
 }
 
-impl CheckRefusal {
-    /// The refusal as a record.
-    pub fn fault(self) -> Fault
-        ensures { result ≡ check_fault self }
-    {
-        let (code, channel) = match self {
+/// The refusal as a record.
+impl From<CheckRefusal> for Fault {
+    ghost from_gives = { λ e f. f ≡ check_fault e };
+
+    fn from(refusal: CheckRefusal) -> Fault {
+        let (code, channel) = match refusal {
             CheckRefusal::TooShort => (45, 0),
             CheckRefusal::Edition => (46, 0),
             CheckRefusal::Channels => (47, 0),
@@ -34,9 +34,7 @@ impl CheckRefusal {
         Fault {
             code,
             channel,
-            depth: 0,
-            first: 0,
-            second: 0,
+            ..Fault::default()
         }
     }
 }

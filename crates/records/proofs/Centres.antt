@@ -4,7 +4,7 @@ use Rattle.std.proofs.lemmas.Bool.{cases_Bool, cases_lt, both_ways, and_parts, a
 use Rattle.std.specs.Ordering.{MatchOrdering}
 use Rattle.records.specs.Orders.{Total}
 use Rattle.records.specs.Middles.{smaller, greater, Central}
-use Rattle.records.proofs.Counts.{count_yes, not_both, one_of, no_more, fewer, find}
+use Rattle.records.proofs.Counts.{all_pass, not_both, one_of, no_more, fewer, find}
 
 -- an item that the middle lies beside is not central
 pub beside : (r : Ordering) (n b a : ℕ) → MatchOrdering r ((n - 1) / 2 < b) ((b ≤ (n - 1) / 2) × (a ≤ n / 2)) (n / 2 < a) → (r ≡ Equal → ⊥) → b ≤ (n - 1) / 2 → a ≤ n / 2 → ⊥
@@ -87,11 +87,7 @@ module _ {K : Type 0} (lesser : K → K → Bool) (o : Total lesser) where
       (cases_lt (length xs / 2) (greater lesser xs (get_or xs r.0 d))))
       (cases_lt ((length xs - 1) / 2) (smaller lesser xs (get_or xs r.0 d))))
       (λ (none : (j : ℕ) (e : K) → j < length xs → (p (get_or xs j e) && q (get_or xs j e)) ≡ false). absurd (some_between p q xs many more none))
-      (find (λ y. p y && q y) d xs)
-
-  pub all_pass : (xs : List K) → count_by (λ _. true) xs ≡ length xs
-  all_pass [] = refl
-  all_pass (x ∷ xs) = omega (arith, count_yes (λ _. true) x xs refl, all_pass xs)
+      (find (λ y. p y && q y) xs)
 
   -- where no item is central there is none
   pub none_left : (xs : List K) → ((j : ℕ) (d : K) → j < length xs → Central lesser xs (get_or xs j d) → ⊥) → length xs ≡ 0

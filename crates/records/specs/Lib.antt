@@ -2,3 +2,4 @@ pub mod Orders
 pub mod OrderLaws
 pub mod Middles
 pub mod Bounds
+pub mod Faults

@@ -1,31 +1,58 @@
 -- The orders of this crate are total.
-use Rattle.std.specs.Prelude.{◌≡◌, ℕ, Bool, true, false, cond, ◌⊎◌, ℤ, pos, negsuc, int_lt, nat_lt, refl}
-use Rattle.std.proofs.Common.{sym, inl, inr, ⊎_elim, arith}
-use Rattle.std.proofs.lemmas.Bool.{ltb-true, ltb-false, le-ltb, both_ways}
-use Rattle.records.specs.Orders.{Total, in_turn}
+use Rattle.std.specs.Prelude.{◌≡◌, ℕ, Bool, true, false, cond, ◌⊎◌, ℤ, int_lt, nat_lt, ◌==◌, refl}
+use Rattle.std.specs.declared.cmp.Ordering.{Ordering}
+use Rattle.std.specs.declared.cmp.Ordering.TheVariants.{Less, Equal, Greater}
+use Rattle.std.specs.Ordering.{nat_cmp, int_cmp, is_lt, is_gt, ordering_reverse}
+use Rattle.std.specs.Cmp.{IsTotalOrder}
+use Rattle.std.proofs.Common.{sym, ap, subst, ◌∙◌, inl, inr, ⊎_elim}
+use Rattle.std.proofs.lemmas.Cmp.{upto, int_cmp_total}
+use Rattle.std.proofs.lemmas.Bool.{both_ways}
+use Rattle.records.specs.Orders.{Total, in_turn, lesser_by}
 
-below_one_way : (a b : ℕ) → nat_lt a b ≡ true → nat_lt b a ≡ false
-below_one_way a b e = le-ltb b a (omega (arith, ltb-true a b e))
+-- the lesser by a comparison, where that is a total order
+turned : (r : Ordering) → is_lt r ≡ true → is_lt (ordering_reverse r) ≡ false
+turned Less e = refl
+turned Equal e = refl
+turned Greater e = sym e
 
-below_chain : (a b c : ℕ) → nat_lt a b ≡ false → nat_lt b c ≡ false → nat_lt a c ≡ false
-below_chain a b c e f = le-ltb a c (omega (arith, ltb-false a b e, ltb-false b c f))
+no_less : (r : Ordering) → is_gt (ordering_reverse r) ≡ is_lt r
+no_less Less = refl
+no_less Equal = refl
+no_less Greater = refl
 
-whole_one_way : (x y : ℤ) → int_lt x y ≡ true → int_lt y x ≡ false
-whole_one_way (pos a) (pos b) e = below_one_way a b e
-whole_one_way (pos a) (negsuc b) e = sym e
-whole_one_way (negsuc a) (pos b) e = refl
-whole_one_way (negsuc a) (negsuc b) e = below_one_way b a e
+pub lesser_by_total : {K : Type 0} {R : K → K → Ordering} → IsTotalOrder R → Total (lesser_by R)
+lesser_by_total {R = R} o = record {
+  one_way = λ x y e. ap is_lt (o.antisymm y x) ∙ turned (R x y) e;
+  chain = λ x y z e f. sym (no_less (R x z)) ∙ ap is_gt (sym (o.antisymm z x))
+      ∙ upto o z y x (ap is_gt (o.antisymm z y) ∙ no_less (R y z) ∙ f) (ap is_gt (o.antisymm y x) ∙ no_less (R x y) ∙ e);
+}
 
-whole_chain : (x y z : ℤ) → int_lt x y ≡ false → int_lt y z ≡ false → int_lt x z ≡ false
-whole_chain (pos a) (pos b) (pos c) e f = below_chain a b c e f
-whole_chain (pos a) y (negsuc c) e f = refl
-whole_chain (pos a) (negsuc b) (pos c) e f = absurd (both_ways true f refl)
-whole_chain (negsuc a) (pos b) z e f = absurd (both_ways true e refl)
-whole_chain (negsuc a) (negsuc b) (pos c) e f = f
-whole_chain (negsuc a) (negsuc b) (negsuc c) e f = below_chain c b a f e
+-- the comparison of numbers
+pub lesser_by_nat : (x y : ℕ) → lesser_by nat_cmp x y ≡ nat_lt x y
+lesser_by_nat x y = chosen (nat_lt x y) (x == y)
+  where
+    chosen : (a b : Bool) → is_lt (cond a Less (cond b Equal Greater)) ≡ a
+    chosen true b = refl
+    chosen false true = refl
+    chosen false false = refl
+
+pub lesser_by_int : (x y : ℤ) → lesser_by int_cmp x y ≡ int_lt x y
+lesser_by_int x y = chosen (int_lt x y) (int_lt y x)
+  where
+    chosen : (a b : Bool) → is_lt (cond a Less (cond b Greater Equal)) ≡ a
+    chosen true b = refl
+    chosen false true = refl
+    chosen false false = refl
+
+-- the two are one order
+pub lesser_by_is_nat_lt : lesser_by nat_cmp ≡ nat_lt
+lesser_by_is_nat_lt = λ i x y. lesser_by_nat x y i
+
+pub lesser_by_is_int_lt : lesser_by int_cmp ≡ int_lt
+lesser_by_is_int_lt = λ i x y. lesser_by_int x y i
 
 pub whole_total : Total int_lt
-whole_total = record { one_way = whole_one_way; chain = whole_chain }
+whole_total = subst (λ l. Total l) lesser_by_is_int_lt (lesser_by_total int_cmp_total)
 
 -- how a test that asks the first order, and then the second, comes out
 no_parts : (a b c : Bool) → cond a true (cond b false c) ≡ false → (a ≡ false) × (b ≡ false → c ≡ false)

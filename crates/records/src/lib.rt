@@ -11,6 +11,6 @@ mod orders;
 pub use choosing::middle;
 pub use faults::Fault;
 pub use fixes::Fix;
-pub use middles::{compared, middle_of_few};
+pub use middles::middle_of_few;
 pub use narrowing::middle_of_many;
-pub use orders::{Ascending, InTurn, Order};
+pub use orders::{Ascending, InTurn, Order, compared};

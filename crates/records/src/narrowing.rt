@@ -1,76 +1,60 @@
 // The middle of many items: the bounds that it lies between are narrowed from item to item. No item is moved, and none is copied.
-ghost use Rattle.std.specs.Prelude.{◌≡◌, ◌-◌, ◌/◌, ◌<◌, length};
-ghost use Rattle.records.specs.Bounds.{Holds, above_bound, below_bound, between, Picks, FirstEqual};
+ghost use Rattle.std.specs.Prelude.{◌≡◌, ◌+◌, ◌-◌, ◌/◌, ◌<◌, length};
+ghost use Rattle.std.specs.Option.{option_copied, option_map};
+ghost use Rattle.records.specs.Bounds.{alike, between, Picks, FirstEqual};
 ghost use Rattle.records.specs.Middles.{FindsMiddle};
 
-use crate::middles::{compared, side, standing};
-use crate::orders::Order;
+use crate::middles::{side, standing};
+use crate::orders::{Order, compared};
 use std::cmp::Ordering;
 
-/// Whether `x` is greater than the item at `low`, if there is such a bound.
-fn is_over<T, O: Order<T>>(order: &O, items: &[T], low: Option<usize>, x: &T) -> bool
-    requires { Holds items.now low }
-    ensures { result ≡ above_bound O.Order.lesser items.now low x.now }
-{
-    match low {
-        None => true,
-        Some(i) => order.is_less(&items[i], x),
+/// Items, and the bounds that their middle lies between: each an item, or none.
+#[derive(Drop)]
+struct Narrowing<'a, 'o, T, O> {
+    order: &'o O,
+    items: &'a [T],
+    low: Option<&'a T>,
+    high: Option<&'a T>,
+    /// How many items are greater than `low`, and how many smaller than `high`.
+    over: usize,
+    under: usize,
+}
+
+impl<'a, 'o, T, O: Order<T>> Narrowing<'a, 'o, T, O> {
+    /// Whether `x` is strictly between the bounds.
+    fn is_between(&self, x: &T) -> bool
+        ensures { result ≡ between O.Order.lesser (option_copied self.now.low) (option_copied self.now.high) x.now }
+    {
+        self.low.is_none_or(|low| self.order.is_less(low, x))
+            && self.high.is_none_or(|high| self.order.is_less(x, high))
+    }
+
+    /// Half of how many items are between the bounds, and one more.
+    fn half(&self) -> usize
+        ensures { result ≡ (self.now.over - (length self.now.items.now - self.now.under)) / 2 + 1 }
+    {
+        let outside = self.items.len().saturating_sub(self.under);
+        self.over.saturating_sub(outside) / 2 + 1
+    }
+
+    /// An item between the bounds, with its place: from the first half of those, the last.
+    fn pick(&self) -> Option<(usize, &'a T)>
+        ensures { Picks O.Order.lesser self.now.items.now (option_copied self.now.low) (option_copied self.now.high) (option_map (λ p. (p.0, p.1.now)) result) }
+    {
+        self.items
+            .iter()
+            .enumerate()
+            .filter(|(_, x)| self.is_between(x))
+            .take(self.half())
+            .last()
     }
 }
 
-/// Whether `x` is smaller than the item at `high`, if there is such a bound.
-fn is_under<T, O: Order<T>>(order: &O, items: &[T], high: Option<usize>, x: &T) -> bool
-    requires { Holds items.now high }
-    ensures { result ≡ below_bound O.Order.lesser items.now high x.now }
+/// Whether neither of the two is the lesser.
+fn is_alike<T, O: Order<T>>(order: &O, a: &T, b: &T) -> bool
+    ensures { result ≡ alike O.Order.lesser a.now b.now }
 {
-    match high {
-        None => true,
-        Some(i) => order.is_less(x, &items[i]),
-    }
-}
-
-/// Whether `x` is strictly between the bounds.
-fn is_between<T, O: Order<T>>(
-    order: &O,
-    items: &[T],
-    low: Option<usize>,
-    high: Option<usize>,
-    x: &T,
-) -> bool
-    requires { (Holds items.now low) × (Holds items.now high) }
-    ensures { result ≡ between O.Order.lesser items.now low high x.now }
-{
-    if is_over(order, items, low, x) {
-        is_under(order, items, high, x)
-    } else {
-        false
-    }
-}
-
-/// The place of an item between the bounds: the one after `skip` others, or
-/// the last one where there are fewer.
-fn pick<T, O: Order<T>>(
-    order: &O,
-    items: &[T],
-    low: Option<usize>,
-    high: Option<usize>,
-    skip: usize,
-) -> Option<usize>
-    requires { (Holds items.now low) × (Holds items.now high) }
-    ensures { Picks O.Order.lesser items.now low high result }
-{
-    let mut picked = None;
-    let mut left = skip;
-    for (i, x) in items.iter().enumerate() {
-        if is_between(order, items, low, high, x) {
-            picked = Some(i);
-            if left == 0 {
-                return picked;
-            }
-            left -= 1;
-        }
-    }
-    picked
+    compared(order, a, b).is_eq()
 }
 
 /// The first place of an item equal in the order to the one at `p`.
@@ -79,19 +63,10 @@ fn first_equal<T, O: Order<T>>(order: &O, items: &[T], p: usize) -> usize
     ensures { FirstEqual O.Order.lesser items.now p result }
 {
     let x = &items[p];
-    for i in 0..p {
-        if compared(order, &items[i], x) == Ordering::Equal {
-            return i;
-        }
-    }
-    p
-}
-
-/// Half of how many of `n` items are among `over` of them and among `under` of them.
-fn half_between(n: usize, over: usize, under: usize) -> usize
-    ensures { result ≡ (over - (n - under)) / 2 }
-{
-    over.saturating_sub(n.saturating_sub(under)) / 2
+    items[..p]
+        .iter()
+        .position(|y| is_alike(order, y, x))
+        .unwrap_or(p)
 }
 
 /// The place of the first item with at most (n - 1) / 2 smaller and at most
@@ -101,20 +76,24 @@ pub fn middle_of_many<T, O: Order<T>>(order: &O, items: &[T]) -> Option<usize>
     ensures { FindsMiddle O.Order.lesser items.now result }
 {
     let n = items.len();
-    let mut low = None;
-    let mut high = None;
-    let mut over = n;
-    let mut under = n;
-    while let Some(p) = pick(order, items, low, high, half_between(n, over, under)) {
-        let (below, above) = standing(order, items, &items[p]);
+    let mut narrowing = Narrowing {
+        order,
+        items,
+        low: None,
+        high: None,
+        over: n,
+        under: n,
+    };
+    while let Some((p, x)) = narrowing.pick() {
+        let (below, above) = standing(order, items, x);
         match side(n, below, above) {
             Ordering::Less => {
-                high = Some(p);
-                under = below;
+                narrowing.high = Some(x);
+                narrowing.under = below;
             }
             Ordering::Greater => {
-                low = Some(p);
-                over = above;
+                narrowing.low = Some(x);
+                narrowing.over = above;
             }
             Ordering::Equal => return Some(first_equal(order, items, p)),
         }

@@ -1,31 +1,46 @@
 // Orders: which of two items is the lesser, told by a value, so that one type may have several.
-ghost use Rattle.std.specs.Prelude.{◌≡◌, Bool, int_lt};
-ghost use Rattle.records.specs.Orders.{Total, in_turn};
-ghost use Rattle.records.specs.OrderLaws.{whole_total, in_turn_total};
+ghost use Rattle.std.specs.Prelude.{◌≡◌, Bool};
+ghost use Rattle.records.specs.Orders.{Compares, Total, in_turn, lesser_by};
+ghost use Rattle.records.specs.OrderLaws.{in_turn_total, lesser_by_total};
+
+use std::cmp::Ordering;
 
 /// An order in which any two items compare. Items of which neither is the
 /// lesser are equal in the order, and need not be the same.
 pub trait Order<T> {
     ghost lesser: { T → T → Bool };
 
-    ghost laws: { Total lesser };
-
     /// Whether `a` is the lesser of the two.
     fn is_less(&self, a: &T, b: &T) -> bool
         ensures { result ≡ lesser a.now b.now };
+
+    ghost laws: { Total lesser };
 }
 
-/// Whole numbers from the least up.
+/// How `a` stands to `b` in the order.
+pub fn compared<T, O: Order<T>>(order: &O, a: &T, b: &T) -> Ordering
+    ensures { Compares O.Order.lesser a.now b.now result }
+{
+    if order.is_less(a, b) {
+        Ordering::Less
+    } else if order.is_less(b, a) {
+        Ordering::Greater
+    } else {
+        Ordering::Equal
+    }
+}
+
+/// Items from the least up, as their own type orders them.
 #[derive(Clone, Copy, Drop)]
 pub struct Ascending;
 
-impl Order<i64> for Ascending {
-    ghost lesser = { int_lt };
+impl<T: Ord> Order<T> for Ascending {
+    ghost lesser = { lesser_by T.cmp };
 
-    ghost laws = { whole_total };
+    ghost laws = { lesser_by_total T.Ord.total };
 
-    fn is_less(&self, a: &i64, b: &i64) -> bool {
-        *a < *b
+    fn is_less(&self, a: &T, b: &T) -> bool {
+        a < b
     }
 }
 
@@ -42,12 +57,10 @@ impl<A, B, P: Order<A>, Q: Order<B>> Order<(A, B)> for InTurn<P, Q> {
     ghost laws = { in_turn_total P.Order.lesser Q.Order.lesser P.Order.laws Q.Order.laws };
 
     fn is_less(&self, a: &(A, B), b: &(A, B)) -> bool {
-        if self.first.is_less(&a.0, &b.0) {
-            true
-        } else if self.first.is_less(&b.0, &a.0) {
-            false
-        } else {
-            self.second.is_less(&a.1, &b.1)
+        match compared(&self.first, &a.0, &b.0) {
+            Ordering::Less => true,
+            Ordering::Greater => false,
+            Ordering::Equal => self.second.is_less(&a.1, &b.1),
         }
     }
 }

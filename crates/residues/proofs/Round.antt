@@ -7,11 +7,15 @@ use Rattle.residues.specs.Circle.{◌modulo◌, distance, Allows, Errs}
 use Rattle.residues.proofs.Ring.{ring, lin}
 use Rattle.residues.proofs.Floor.{split, modulo_is}
 
+-- r is P, an error from −t to t, and some turns of m
+abbrev pub Near : (m t : ℕ) (r P : ℤ) → Type 0
+Near m t r P = (e j : ℤ) × (r ≡ P +ℤ e +ℤ j *ℤ pos m) × (neg_ℤ (pos t) ≤ℤ e) × (e ≤ℤ pos t)
+
 -- from a distance to an error
-pub to_error : (m t : ℕ) (r P : ℤ) → 0 < m → distance m r P ≤ t → (e j : ℤ) × (r ≡ P +ℤ e +ℤ j *ℤ pos m) × (neg_ℤ (pos t) ≤ℤ e) × (e ≤ℤ pos t)
+pub to_error : (m t : ℕ) (r P : ℤ) → 0 < m → distance m r P ≤ t → Near m t r P
 to_error m t r P h d = go (dec_le ((r -ℤ P) modulo m) t)
   where
-    go : Dec ((r -ℤ P) modulo m ≤ t) → (e j : ℤ) × (r ≡ P +ℤ e +ℤ j *ℤ pos m) × (neg_ℤ (pos t) ≤ℤ e) × (e ≤ℤ pos t)
+    go : Dec ((r -ℤ P) modulo m ≤ t) → Near m t r P
     go (yes y) = (pos ((r -ℤ P) modulo m), int_div_euclid (r -ℤ P) (pos m), omega (arith, lin, (split (r -ℤ P) m h).0), omega (arith, lin), omega (arith, lin))
     go (no n) = (neg_ℤ (pos ((P -ℤ r) modulo m)), neg_ℤ (int_div_euclid (P -ℤ r) (pos m)), simp ring (omega (arith, lin, simp ring at (split (P -ℤ r) m h).0)), omega (arith, lin), omega (arith, lin))
 

@@ -1,36 +1,34 @@
 -- The turns of Euclid's method, modulo m.
-use Rattle.std.proofs.Common.{◌≡◌, ℕ, ◌+◌, ◌-◌, ◌*◌, ◌/◌, ◌%◌, ◌<◌, ◌≤◌, ℤ, pos, ◌+ℤ◌, ◌-ℤ◌, ◌*ℤ◌, sym, ap, subst, mod-lt, arith}
-use Prim.Native.Nat.{◌∣◌}
-use native.Mathlib.Nat.{div-add-mod, dvd-mod_iff, dvd_refl, dvd-zero}
-use Rattle.residues.specs.Divisors.{Greatest}
+use Rattle.std.proofs.Common.{◌≡◌, ℕ, ◌+◌, ◌-◌, ◌*◌, ◌/◌, ◌%◌, ◌<◌, ℤ, pos, ◌+ℤ◌, ◌-ℤ◌, ◌*ℤ◌, sym, ap, mod-lt, arith}
+use native.Mathlib.Nat.{div-add-mod}
+use Rattle.std.specs.Int.{IsGcd}
+use Rattle.std.proofs.lemmas.Nat.Gcd.{IsGcd-from_zero, IsGcd-from_mod}
+use Rattle.residues.specs.declared.divisors.Shared.{Shared}
+use Rattle.residues.specs.Euclid.{Tells, rest_of}
 use Rattle.residues.proofs.Ring.{ring, lin}
 use Rattle.residues.proofs.Congruence.{mod_same}
 
--- high and rest are a times their cofactors, modulo m, and have the common divisors of a and m
-pub record State (a m high rest at_high at_rest : ℕ) : Type 0 where
-  pub high_fits : high ≤ m
-  pub rest_fits : rest < m
-  pub at_high_fits : at_high < m
-  pub at_rest_fits : at_rest < m
-  pub k : ℤ
-  pub l : ℤ
-  pub high_is : pos high ≡ pos a *ℤ pos at_high +ℤ k *ℤ pos m
-  pub rest_is : pos rest ≡ pos a *ℤ pos at_rest +ℤ l *ℤ pos m
-  pub from_both : (c : ℕ) → c ∣ a → c ∣ m → (c ∣ high) × (c ∣ rest)
-  pub to_both : (c : ℕ) → c ∣ high → c ∣ rest → (c ∣ a) × (c ∣ m)
+-- the divisor is a times the cofactor, modulo m
+pub record Shares (a m : ℕ) (s : Shared) : Type 0 where
+  pub below : s.cofactor < m
+  pub turns : ℤ
+  pub is : pos s.divisor ≡ pos a *ℤ pos s.cofactor +ℤ turns *ℤ pos m
 
-pub start : (a m : ℕ) → 0 < m → State a m m (a % m) 0 (1 % m)
+-- both are so, and have the common divisors of a and m
+pub record State (a m : ℕ) (s t : Shared) : Type 0 where
+  pub last : Shares a m s
+  pub next : Shares a m t
+  pub common : (g : ℕ) → IsGcd s.divisor t.divisor g → IsGcd a m g
+
+pub start : (a m : ℕ) → 0 < m → State a m (record { divisor = m; cofactor = 0 }) (record { divisor = a % m; cofactor = 1 % m })
 start a m h = record {
-  high_fits = omega arith;
-  rest_fits = mod-lt a h;
-  at_high_fits = h;
-  at_rest_fits = mod-lt 1 h;
-  k = pos 1;
-  l = pos (a * (1 / m)) -ℤ pos (a / m);
-  high_is = ap pos (omega arith);
-  rest_is = simp ring (omega (arith, lin, div-add-mod a m, ap (λ (z : ℕ). a * z) (div-add-mod 1 m)));
-  from_both = λ c x y. (y, (dvd-mod_iff c y).1 x);
-  to_both = λ c x y. ((dvd-mod_iff c x).0 y, x);
+  last = record { below = h; turns = pos 1; is = ap pos (omega arith) };
+  next = record {
+    below = mod-lt 1 h;
+    turns = pos (a * (1 / m)) -ℤ pos (a / m);
+    is = simp ring (omega (arith, lin, div-add-mod a m, ap (λ (z : ℕ). a * z) (div-add-mod 1 m)));
+  };
+  common = IsGcd-from_mod a m;
 }
 
 turn_is : (a m h r q n s t t' k l c : ℤ) → h ≡ r *ℤ q +ℤ n → h ≡ a *ℤ s +ℤ k *ℤ m → r ≡ a *ℤ t +ℤ l *ℤ m → t' ≡ s -ℤ q *ℤ t +ℤ c *ℤ m
@@ -41,29 +39,26 @@ turn_is a m h r q n s t t' k l c e f g i =
 after_is : (m s x : ℕ) → 0 < m → pos ((s + (m - x % m)) % m) ≡ pos s -ℤ pos x +ℤ (pos 1 +ℤ pos (x / m) -ℤ pos ((s + (m - x % m)) / m)) *ℤ pos m
 after_is m s x h = simp ring (omega (arith, lin, div-add-mod x m, div-add-mod (s + (m - x % m)) m, mod-lt x h))
 
-pub again : (a m high rest at_high at_rest : ℕ) → 0 < m → 0 < rest → State a m high rest at_high at_rest
-    → State a m rest (high % rest) at_rest ((at_high + (m - (high / rest * at_rest) % m)) % m)
-again a m high rest at_high at_rest p h s =
-    let x : ℕ = high / rest * at_rest in
+pub again : (a m : ℕ) (s t : Shared) → 0 < t.divisor → State a m s t → State a m t (rest_of m s t)
+again a m s t h p =
+    let x : ℕ = s.divisor / t.divisor * t.cofactor in
+    let c : ℤ = pos 1 +ℤ pos (x / m) -ℤ pos ((s.cofactor + (m - x % m)) / m) in
     record {
-      high_fits = omega arith;
-      rest_fits = omega (arith, mod-lt high h);
-      at_high_fits = s.at_rest_fits;
-      at_rest_fits = mod-lt (at_high + (m - x % m)) p;
-      k = s.l;
-      l = s.k -ℤ pos (high / rest) *ℤ s.l -ℤ pos a *ℤ (pos 1 +ℤ pos (x / m) -ℤ pos ((at_high + (m - x % m)) / m));
-      high_is = s.rest_is;
-      rest_is = turn_is (pos a) (pos m) (pos high) (pos rest) (pos (high / rest)) (pos (high % rest)) (pos at_high) (pos at_rest) (pos ((at_high + (m - x % m)) % m)) s.k s.l
-          (pos 1 +ℤ pos (x / m) -ℤ pos ((at_high + (m - x % m)) / m)) (ap pos (sym (div-add-mod high rest))) s.high_is s.rest_is (after_is m at_high x p);
-      from_both = λ c y z. let both = s.from_both c y z in (both.1, (dvd-mod_iff c both.1).1 both.0);
-      to_both = λ c y z. s.to_both c ((dvd-mod_iff c y).0 z) y;
+      last = p.next;
+      next = record {
+        below = mod-lt (s.cofactor + (m - x % m)) (omega (arith, p.next.below));
+        turns = p.last.turns -ℤ pos (s.divisor / t.divisor) *ℤ p.next.turns -ℤ pos a *ℤ c;
+        is = turn_is (pos a) (pos m) (pos s.divisor) (pos t.divisor) (pos (s.divisor / t.divisor)) (pos (s.divisor % t.divisor)) (pos s.cofactor) (pos t.cofactor) (pos ((s.cofactor + (m - x % m)) % m)) p.last.turns p.next.turns c
+            (ap pos (sym (div-add-mod s.divisor t.divisor))) p.last.is p.next.is (after_is m s.cofactor x (omega (arith, p.next.below)));
+      };
+      common = λ g d. p.common g (IsGcd-from_mod s.divisor t.divisor g d);
     }
 
-pub ended : (a m high rest at_high at_rest : ℕ) → rest ≡ 0 → State a m high rest at_high at_rest → Greatest a m high
-ended a m high rest at_high at_rest e s =
-    let none : high ∣ rest = subst (λ x. high ∣ x) (sym e) (dvd-zero high) in
-    let both = s.to_both high (dvd_refl high) none in
-    record { left = both.0; right = both.1; greatest = λ c x y. (s.from_both c x y).0 }
-
-pub cofactor : (a m high rest at_high at_rest : ℕ) → State a m high rest at_high at_rest → (a * at_high) % m ≡ high % m
-cofactor a m high rest at_high at_rest s = sym (mod_same m high (a * at_high) (s.k, s.high_is))
+pub ended : (a m : ℕ) (s t : Shared) → t.divisor ≡ 0 → State a m s t → Tells a m s
+ended a m s t e p =
+    let d = p.common s.divisor (IsGcd-from_zero s.divisor t.divisor e) in
+    record {
+      greatest = record { left = d.0; right = d.1; greatest = d.2 };
+      below = p.last.below;
+      cofactor = sym (mod_same m s.divisor (a * s.cofactor) (p.last.turns, p.last.is));
+    }

@@ -1,5 +1,5 @@
 -- What one run of Euclid's method tells. Assumes nothing.
-use Rattle.std.specs.Prelude.{◌≡◌, ℕ, ◌*◌, ◌%◌, ◌<◌, Some, None, Option}
+use Rattle.std.specs.Prelude.{◌≡◌, ℕ, ◌+◌, ◌-◌, ◌*◌, ◌/◌, ◌%◌, ◌<◌, Some, None, Option}
 use Rattle.residues.specs.declared.divisors.Shared.{Shared}
 use Rattle.residues.specs.Divisors.{Greatest}
 
@@ -12,3 +12,7 @@ pub record Tells (a m : ℕ) (s : Shared) : Type 0 where
 abbrev pub Runs : ℕ → ℕ → Option Shared → Type 0
 Runs a m None = m ≡ 0
 Runs a m (Some s) = Tells a m s
+
+-- one turn: what the one divisor leaves of the other, and the cofactor that goes with it
+abbrev pub rest_of : ℕ → Shared → Shared → Shared
+rest_of m s t = record { divisor = s.divisor % t.divisor; cofactor = (s.cofactor + (m - (s.divisor / t.divisor * t.cofactor) % m)) % m }

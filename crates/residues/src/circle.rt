@@ -20,8 +20,8 @@ pub fn allows(modulus: u32, bound: u32, reading: u32, position: i64) -> bool
     if modulus == 0 {
         return false;
     }
-    let length = modulus as u64;
-    let on_circle = position.rem_euclid(modulus as i64) as u64;
-    let ahead = (reading as u64 + (length - on_circle)) % length;
-    shorter_way(length, ahead) <= bound as u64
+    let length = u64::from(modulus);
+    let on_circle = position.rem_euclid(i64::from(modulus)) as u64;
+    let ahead = (u64::from(reading) + (length - on_circle)) % length;
+    shorter_way(length, ahead) <= u64::from(bound)
 }

@@ -1,6 +1,5 @@
 -- Checks in a row, of which the first that fails is told.
 use Rattle.std.proofs.Common.{◌≡◌, ℕ, ◌<◌, ◌⊎◌, List, [], ◌∷◌, sym, ap, ◌∙◌, inl, inr, arith}
-use native.Mathlib.Decide.{dec_lt}
 use Rattle.settings.specs.declared.refusals.SettingRefusal.{SettingRefusal}
 use Rattle.settings.specs.Refusals.{FailsFirst, TellsLowest}
 
@@ -40,14 +39,13 @@ plain P told = record {
   one = λ e f h k. h.0 ∙ sym k.0;
 }
 
+-- two places, neither of which is before the other
+pub same_place : (k l : ℕ) → (k < l → ⊥) → (l < k → ⊥) → k ≡ l
+same_place k l a b = omega arith
+
 -- the lowest of n at which P fails
 pub lowest : (P : ℕ → Type 0) (n k l : ℕ) → FailsFirst P n k → FailsFirst P n l → k ≡ l
-lowest P n k l (_, before, fails) (_, before', fails') = go (dec_lt k l) (dec_lt l k)
-  where
-    go : Dec (k < l) → Dec (l < k) → k ≡ l
-    go (yes a) b = absurd (fails (before' k a))
-    go (no a) (yes b) = absurd (fails' (before l b))
-    go (no a) (no b) = omega arith
+lowest P n k l (_, before, fails) (_, before', fails') = same_place k l (λ a. fails (before' k a)) (λ a. fails' (before l a))
 
 -- a check over channels, which tells the lowest
 unfoldable pub each : (P : ℕ → Type 0) (n : ℕ) → (ℕ → SettingRefusal) → Check

@@ -1,7 +1,6 @@
 -- A unit and factors that are refused are not accepted, and are refused for one reason.
 use Rattle.std.proofs.Common.{◌≡◌, ℕ, suc, ◌<◌, ◌≤◌, List, [], ◌∷◌, length, get_or, take, sym, refl, ap, ◌∙◌, subst, inl, inr, mul-le-mul_left, arith, length-take, get_or-take, take-take}
 use native.Mathlib.Nat.{dvd_antisymm}
-use native.Mathlib.Decide.{dec_lt}
 use lib.Seq.{take-length}
 use Rattle.residues.specs.Divisors.{Coprime, Greatest}
 use Rattle.residues.specs.Products.{product, PairwiseCoprime}
@@ -11,27 +10,19 @@ use Rattle.settings.specs.declared.refusals.SettingRefusal.TheVariants.{Count, U
 use Rattle.settings.specs.Settings.{Counted, FactorFits, ModulusFits, RangeFits, UnitFits, range_of}
 use Rattle.settings.specs.Refusals.{PassesFirst, Refuses, SharesFirst, TellsPassing, TellsShared}
 use Rattle.settings.specs.SettingLaws.{RefusedNotAccepted, OneRefusal}
-use Rattle.settings.proofs.Chains.{Check, FailsIn, plain, each, fails_alone, fails_once}
+use Rattle.settings.proofs.Chains.{Check, FailsIn, plain, each, fails_alone, fails_once, same_place}
 
 -- the pair that shares a divisor first
 not_shared : (gs : List ℕ) (j k d : ℕ) → SharesFirst gs j k d → Coprime (get_or gs j 0) (get_or gs k 0) → ⊥
 not_shared gs j k d h coprime = h.shared (coprime d h.divisor_is.left h.divisor_is.right)
 
 same_first : (gs : List ℕ) (j k d j' k' d' : ℕ) → SharesFirst gs j k d → SharesFirst gs j' k' d' → j ≡ j'
-same_first gs j k d j' k' d' h i = go (dec_lt j j') (dec_lt j' j)
-  where
-    go : Dec (j < j') → Dec (j' < j) → j ≡ j'
-    go (yes a) b = absurd (not_shared gs j k d h (i.none_before j k a h.in_order h.within))
-    go (no a) (yes b) = absurd (not_shared gs j' k' d' i (h.none_before j' k' b i.in_order i.within))
-    go (no a) (no b) = omega arith
+same_first gs j k d j' k' d' h i =
+    same_place j j' (λ a. not_shared gs j k d h (i.none_before j k a h.in_order h.within)) (λ a. not_shared gs j' k' d' i (h.none_before j' k' a i.in_order i.within))
 
 same_second : (gs : List ℕ) (j k d k' d' : ℕ) → SharesFirst gs j k d → SharesFirst gs j k' d' → k ≡ k'
-same_second gs j k d k' d' h i = go (dec_lt k k') (dec_lt k' k)
-  where
-    go : Dec (k < k') → Dec (k' < k) → k ≡ k'
-    go (yes a) b = absurd (not_shared gs j k d h (i.none_between k h.in_order a))
-    go (no a) (yes b) = absurd (not_shared gs j k' d' i (h.none_between k' i.in_order b))
-    go (no a) (no b) = omega arith
+same_second gs j k d k' d' h i =
+    same_place k k' (λ a. not_shared gs j k d h (i.none_between k h.in_order a)) (λ a. not_shared gs j k' d' i (h.none_between k' i.in_order a))
 
 same_divisor : (a b d d' : ℕ) → Greatest a b d → Greatest a b d' → d ≡ d'
 same_divisor a b d d' h i = dvd_antisymm (i.greatest d h.left h.right) (h.greatest d' i.left i.right)
@@ -65,12 +56,10 @@ range_grows u gs i l positive h =
     mul-le-mul_left u (subst (λ (xs : List ℕ). product xs ≤ product (take l gs)) (take-take i l gs h) (product_le (take l gs) i first))
 
 same_channel : (u : ℕ) (gs : List ℕ) (k l : ℕ) → Positive gs → PassesFirst u gs k → PassesFirst u gs l → k ≡ l
-same_channel u gs k l positive h i = go (dec_lt k l) (dec_lt l k)
-  where
-    go : Dec (k < l) → Dec (l < k) → k ≡ l
-    go (yes a) b = absurd (omega (arith, range_grows u gs (suc k) l positive a, h.passes, i.fits_before))
-    go (no a) (yes b) = absurd (omega (arith, range_grows u gs (suc l) k positive b, i.passes, h.fits_before))
-    go (no a) (no b) = omega arith
+same_channel u gs k l positive h i =
+    same_place k l
+    (λ a. omega (arith, range_grows u gs (suc k) l positive a, h.passes, i.fits_before))
+    (λ a. omega (arith, range_grows u gs (suc l) k positive a, i.passes, h.fits_before))
 
 unfoldable ranges : (u : ℕ) (gs : List ℕ) → Check
 ranges u gs = record {

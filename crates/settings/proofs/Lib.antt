@@ -1,5 +1,6 @@
-pub mod Passed
-pub mod Filled
+pub mod Coprimes
+pub mod Mapped
+pub mod Turned
 pub mod Ranges
 pub mod Placed
 pub mod Splits

@@ -1,6 +1,10 @@
 -- A setting from moduli, by the unit and the factors that they have.
-use Rattle.std.proofs.Common.{◌≡◌, ℕ, ◌*◌, ◌/◌, ◌^◌, ◌<◌, ◌≤◌, List, length, get_or, take, Ok, Err, Result, sym, ap, ◌∙◌, subst, arith, length-take-le, get_or-take}
-use native.Mathlib.Nat.{mul-div_cancel', pos_of_dvd_of_pos}
+use Rattle.std.proofs.Common.{◌≡◌, ℕ, ◌*◌, ◌/◌, ◌^◌, ◌<◌, ◌≤◌, ◌⊎◌, List, [], ◌∷◌, ◌++◌, length, get_or, take, Ok, Err, Result, refl, sym, ap, ◌∙◌, subst, inl, inr, arith, length-take-le, get_or-take}
+use Rattle.std.proofs.lemmas.Bool.{cases_eq}
+use Rattle.std.proofs.lemmas.List.{get_or_append_left, get_or_push, length_push}
+use Prim.Native.Nat.{◌∣◌}
+use Rattle.residues.specs.Divisors.{Greatest}
+use native.Mathlib.Nat.{dvd_trans, dvd-zero, mul-div_cancel', pos_of_dvd_of_pos}
 use Rattle.settings.specs.declared.kept.Setting.{Setting}
 use Rattle.settings.specs.declared.refusals.SettingRefusal.{SettingRefusal}
 use Rattle.settings.specs.declared.refusals.SettingRefusal.TheVariants.{Count, Unit, Factor, Modulus, SharedDivisor, Range}
@@ -8,8 +12,30 @@ use Rattle.settings.specs.Settings.{Accepted, Counted, EachFromTo, FromTo, Great
 use Rattle.settings.specs.Refusals.{Refuses, ModuliRefused}
 use Rattle.settings.specs.Told.{Makes, MakesFromModuli, factors_of}
 
+-- what holds of each number, and of one more
+all_more : (ms : List ℕ) (m : ℕ) (P : ℕ → Type 0) → ((k : ℕ) → k < length ms → P (get_or ms k 0)) → P m → (k : ℕ) → k < length (ms ++ m ∷ []) → P (get_or (ms ++ m ∷ []) k 0)
+all_more ms m P all here k h = pick (cases_eq k (length ms))
+  where
+    pick : (k ≡ length ms) ⊎ (k ≡ length ms → ⊥) → P (get_or (ms ++ m ∷ []) k 0)
+    pick (inl e) = subst P (sym (get_or_push ms m 0 k (sym e))) here
+    pick (inr o) =
+        let l : k < length ms = omega (arith, length_push ms m) in
+        subst P (sym (get_or_append_left ms (m ∷ []) 0 k l)) (all k l)
+
 pub unit_pos : (ms : List ℕ) (u : ℕ) → Counted ms → EachFromTo 1 (2 ^ 31) ms → GreatestOf ms u → 0 < u
 unit_pos ms u counted fit is = pos_of_dvd_of_pos (is.common 0 counted.0) (fit 0 counted.0).0
+
+-- the greatest common divisor of no numbers is 0, and that of one more is what the others' shares with it
+pub greatest_none : GreatestOf [] 0
+greatest_none = record { common = λ k h. absurd (omega arith); greatest = λ d all. dvd-zero d }
+
+pub greatest_more : (ms : List ℕ) (m u v : ℕ) → GreatestOf ms u → Greatest u m v → GreatestOf (ms ++ m ∷ []) v
+greatest_more ms m u v so_far is = record {
+  common = λ k h. all_more ms m (λ x. v ∣ x) (λ i l. dvd_trans _ is.left (so_far.common i l)) is.right k h;
+  greatest = λ d all. is.greatest d
+      (so_far.greatest d (λ i l. subst (λ x. d ∣ x) (get_or_append_left ms (m ∷ []) 0 i l) (all i (omega (arith, length_push ms m)))))
+      (subst (λ x. d ∣ x) (get_or_push ms m 0 (length ms) refl) (all (length ms) (omega (arith, length_push ms m))));
+}
 
 -- the quotients at the front of their places
 pub split_is : (ms : List ℕ) (u : ℕ) (parts : List ℕ) → length ms ≤ length parts → GreatestOf ms u

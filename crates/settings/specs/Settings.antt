@@ -1,6 +1,8 @@
 -- A unit and its factors, what makes them a setting, and the position's remainders. Assumes nothing.
 use Rattle.std.specs.Prelude.{◌≡◌, ℕ, ◌*◌, ◌%◌, ◌^◌, ◌<◌, ◌≤◌, List, length, slice_index, slice_index_or}
+use Rattle.std.specs.Coded.{×_prop, le_prop}
 use Rattle.std.specs.Int.{◌∣◌}
+use Rattle.std.proofs.Math.Nat.{ℕ_set}
 use Rattle.residues.specs.Products.{product, PairwiseCoprime}
 
 abbrev pub FromTo : (low high : ℕ) → ℕ → Type 0
@@ -41,6 +43,17 @@ pub record Accepted (u : ℕ) (gs : List ℕ) : Type 0 where
   pub moduli_fit : (k : ℕ) → k < length gs → ModulusFits u gs k
   pub coprime : PairwiseCoprime gs
   pub range_fits : RangeFits u gs
+
+-- that every check passes has one proof at most
+pub Accepted-prop : (u : ℕ) (gs : List ℕ) → IsProp (Accepted u gs)
+Accepted-prop u gs a b i = record {
+  counted = ×_prop le_prop le_prop a.counted b.counted i;
+  unit_fits = ×_prop le_prop le_prop a.unit_fits b.unit_fits i;
+  factors_fit = λ k h. ×_prop le_prop le_prop (a.factors_fit k h) (b.factors_fit k h) i;
+  moduli_fit = λ k h. ×_prop le_prop le_prop (a.moduli_fit k h) (b.moduli_fit k h) i;
+  coprime = λ j k l h d p q. ℕ_set d 1 (a.coprime j k l h d p q) (b.coprime j k l h d p q) i;
+  range_fits = le_prop a.range_fits b.range_fits i;
+}
 
 -- u divides every one of them, and each number that does divides u
 pub record GreatestOf (ms : List ℕ) (u : ℕ) : Type 0 where

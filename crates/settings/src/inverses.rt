@@ -1,58 +1,82 @@
 // The inverses that a setting keeps, which factors that share a divisor lack.
-ghost use Rattle.std.specs.Prelude.{◌≡◌, suc, ◌<◌, ◌≤◌, length, MatchResult, ◌≢◌};
+ghost use Rattle.std.specs.Prelude.{[], ℕ, ◌<◌, ◌≡◌, ◌≢◌, length, slice_index, slice_index_or, IfErr, IfOk, MatchResult};
 ghost use Rattle.residues.specs.Divisors.{Greatest};
+ghost use Rattle.residues.specs.Products.{PairwiseCoprime};
 ghost use Rattle.settings.specs.Refusals.{TellsShared};
-ghost use Rattle.settings.specs.Settings.{EachFromTo};
-ghost use Rattle.settings.specs.Tables.{InversesMade, RowsOfEight};
+ghost use Rattle.settings.specs.Tables.{ColumnMade, InverseFor, InversesMade, TellsColumn, TellsPair};
 ghost use Rattle.settings.specs.Told.{Inverse};
 
 use crate::SettingRefusal;
-use residues::euclid;
+use crate::candidates::Candidate;
+use residues::{Shared, euclid};
 
 /// The inverse of the first modulo the second, or what they share.
-fn inverse_of(first: u32, second: u32) -> Result<u32, u32>
+fn inverse_of(first: u32, second: u32) -> Result<u32, Shared>
     requires { 1 < second }
-    ensures { MatchResult result (Inverse first second) (λ d. Greatest first second d × (d ≢ 1)) }
+    ensures { MatchResult result (Inverse first second) (λ s. Greatest first second s.divisor × (s.divisor ≢ 1)) }
 {
     match euclid(first, second) {
         Some(shared) if shared.divisor == 1 => Ok(shared.cofactor),
-        Some(shared) => Err(shared.divisor),
+        Some(shared) => Err(shared),
         None => unreachable(),
     }
 }
 
-/// The inverse of one factor modulo each after it.
-fn invert(factors: &[u32], first: usize, inverses: &mut [[u32; 8]; 8]) -> Result<(), SettingRefusal>
-    requires few { length factors.now ≤ 8 }
-    requires factors_fit { EachFromTo 2 32768 factors.now }
-    requires within { first < length factors.now }
-    requires rows { RowsOfEight inverses.old }
-    requires made { InversesMade factors.now inverses.old first }
-    ensures rows { RowsOfEight inverses.new }
-    ensures told { MatchResult result (λ _. InversesMade factors.now inverses.new (suc first)) (TellsShared factors.now) }
+/// The columns as rows.
+fn turned(columns: [[u32; 8]; 8]) -> [[u32; 8]; 8]
+    ensures { (j k : ℕ) → j < 8 → k < 8 → slice_index (slice_index_or result k []) j ≡ slice_index (slice_index_or columns j []) k }
 {
-    for second in first + 1..factors.len() {
-        match inverse_of(factors[first], factors[second]) {
-            Ok(inverse) => inverses[second][first] = inverse,
-            Err(divisor) => return Err(SettingRefusal::SharedDivisor {
-                first,
-                second,
-                divisor,
-            }),
-        }
+    let mut rows = [[0; 8]; 8];
+    for (place, row) in rows.iter_mut().enumerate() {
+        *row = columns.map(
+            move |column|
+                requires { place < 8 }
+                ensures { result ≡ slice_index column place }
+            { column[place] },
+        );
     }
-    Ok(())
+    rows
 }
 
-/// The inverse of each factor modulo each after it, which factors that share a divisor lack.
-pub(crate) fn inverses_of(factors: &[u32]) -> Result<[[u32; 8]; 8], SettingRefusal>
-    requires few { length factors.now ≤ 8 }
-    requires factors_fit { EachFromTo 2 32768 factors.now }
-    ensures { MatchResult result (λ table. InversesMade factors.now table (length factors.now)) (TellsShared factors.now) }
-{
-    let mut inverses = [[0; 8]; 8];
-    for first in 0..factors.len() {
-        invert(factors, first, &mut inverses)?;
+impl Candidate<'_> {
+    /// In row k the inverse of each earlier factor modulo factor k, or the first
+    /// pair that shares a divisor: pairs go by the first channel, then by the second.
+    pub(crate) fn inverses(&self) -> Result<[[u32; 8]; 8], SettingRefusal>
+        ensures made { IfOk result (λ table. InversesMade self.now.factors.now table (length self.now.factors.now)) }
+        ensures coprime { IfOk result (λ _. PairwiseCoprime self.now.factors.now) }
+        ensures shared { IfErr result (TellsShared self.now.factors.now) }
+    {
+        let mut columns = [[0; 8]; 8];
+        for (first, column) in columns.iter_mut().enumerate() {
+            *column = self.column(first)?;
+        }
+        Ok(turned(columns))
     }
-    Ok(inverses)
+
+    /// The inverse of one factor modulo each later factor, at that factor's place.
+    fn column(&self, first: usize) -> Result<[u32; 8], SettingRefusal>
+        ensures { MatchResult result (ColumnMade self.now.factors.now first) (TellsColumn self.now.factors.now first) }
+    {
+        let mut column = [0; 8];
+        for (second, place) in column.iter_mut().enumerate() {
+            *place = self.inverse(first, second)?;
+        }
+        Ok(column)
+    }
+
+    /// The inverse of one factor modulo a later factor; 0 where the second channel is no later one.
+    fn inverse(&self, first: usize, second: usize) -> Result<u32, SettingRefusal>
+        ensures { MatchResult result (InverseFor self.now.factors.now first second) (TellsPair self.now.factors.now first second) }
+    {
+        if second <= first || second >= self.factors.len() {
+            return Ok(0);
+        }
+        inverse_of(self.factors[first], self.factors[second]).map_err(|shared| {
+            SettingRefusal::SharedDivisor {
+                first,
+                second,
+                divisor: shared.divisor,
+            }
+        })
+    }
 }

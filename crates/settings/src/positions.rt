@@ -13,9 +13,9 @@ impl Setting {
         if position >= self.range {
             return Err(RemainderRefusal::Position);
         }
-        if channel >= self.count {
+        let Some(&modulus) = self.moduli().get(channel) else {
             return Err(RemainderRefusal::Channel { channel });
-        }
-        Ok((position % self.moduli[channel] as u64) as u32)
+        };
+        Ok((position % u64::from(modulus)) as u32)
     }
 }

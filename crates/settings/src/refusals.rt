@@ -31,12 +31,12 @@ pub enum SettingRefusal {
     },
 }
 
-impl SettingRefusal {
-    /// The refusal as a record.
-    pub fn fault(self) -> Fault
-        ensures { result ≡ setting_fault self }
-    {
-        let (code, channel, first, second) = match self {
+/// The refusal as a record.
+impl From<SettingRefusal> for Fault {
+    ghost from_gives = { λ e f. f ≡ setting_fault e };
+
+    fn from(refusal: SettingRefusal) -> Fault {
+        let (code, channel, first, second) = match refusal {
             SettingRefusal::Count => (1, 0, 0, 0),
             SettingRefusal::Unit => (2, 0, 0, 0),
             SettingRefusal::Factor { channel } => (3, channel, 0, 0),
@@ -51,9 +51,9 @@ impl SettingRefusal {
         Fault {
             code,
             channel,
-            depth: 0,
             first,
             second,
+            ..Fault::default()
         }
     }
 }
@@ -67,21 +67,19 @@ pub enum RemainderRefusal {
     Channel { channel: usize },
 }
 
-impl RemainderRefusal {
-    /// The refusal as a record.
-    pub fn fault(self) -> Fault
-        ensures { result ≡ remainder_fault self }
-    {
-        let (code, channel) = match self {
+/// The refusal as a record.
+impl From<RemainderRefusal> for Fault {
+    ghost from_gives = { λ e f. f ≡ remainder_fault e };
+
+    fn from(refusal: RemainderRefusal) -> Fault {
+        let (code, channel) = match refusal {
             RemainderRefusal::Position => (31, 0),
             RemainderRefusal::Channel { channel } => (23, channel),
         };
         Fault {
             code,
             channel,
-            depth: 0,
-            first: 0,
-            second: 0,
+            ..Fault::default()
         }
     }
 }

@@ -2,17 +2,16 @@
 ghost use Rattle.std.specs.Prelude.{◌≡◌, ℕ, ◌/◌, ◌<◌, ◌≤◌, length, slice_index};
 ghost use Rattle.settings.specs.Settings.{GreatestOf};
 
+use crate::places::in_places;
 use residues::gcd;
 
 /// The greatest number that divides them all.
 pub(crate) fn common_divisor(numbers: &[u32]) -> u32
     ensures { GreatestOf numbers.now result }
 {
-    let mut common = 0;
-    for number in numbers {
-        common = gcd(common, *number);
-    }
-    common
+    numbers
+        .iter()
+        .fold(0, |common, &number| gcd(common, number))
 }
 
 /// Each number divided by the divisor.
@@ -21,9 +20,5 @@ pub(crate) fn quotients(numbers: &[u32], divisor: u32) -> [u32; 8]
     requires divides { 0 < divisor }
     ensures { (k : ℕ) → k < length numbers.now → slice_index result k ≡ slice_index numbers.now k / divisor }
 {
-    let mut parts = [0; 8];
-    for (place, number) in numbers.iter().enumerate() {
-        parts[place] = *number / divisor;
-    }
-    parts
+    in_places(numbers).map(|number| number / divisor)
 }

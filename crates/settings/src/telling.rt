@@ -1,6 +1,6 @@
 // What a setting tells of itself.
-ghost use Rattle.std.specs.Prelude.{◌≡◌, ℕ, ◌<◌, ◌≤◌, length};
-ghost use Rattle.settings.specs.Settings.{Accepted, OnePosition, range_of};
+ghost use Rattle.std.specs.Prelude.{◌≡◌, length};
+ghost use Rattle.settings.specs.Settings.{Accepted, range_of};
 ghost use Rattle.settings.specs.Told.{InversesTold, ModuliTold, factors_of, unit_of};
 
 use crate::Setting;
@@ -25,14 +25,14 @@ impl Setting {
         ensures told { result.now ≡ factors_of self.now }
         ensures accepted { Accepted (unit_of self.now) (factors_of self.now) }
     {
-        &self.factors[0..self.count]
+        &self.factors[..self.count]
     }
 
     /// The modulus of each channel: the unit times its factor.
     pub fn moduli(&self) -> &[u32]
         ensures { ModuliTold self.now result.now }
     {
-        &self.moduli[0..self.count]
+        &self.moduli[..self.count]
     }
 
     /// How many positions there are: the unit times all factors.
@@ -47,9 +47,9 @@ impl Setting {
         ensures { InversesTold self.now channel result.now }
     {
         if channel < self.count {
-            &self.inverses[channel][0..channel]
+            &self.inverses[channel][..channel]
         } else {
-            &self.inverses[0][0..0]
+            &[]
         }
     }
 }

@@ -1,6 +1,3 @@
-mod Answering
-mod Fronts
-mod Pairing
 mod Returning
 mod Texts
 mod Writing

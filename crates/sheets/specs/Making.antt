@@ -1,5 +1,6 @@
 -- The recording of a sheet. Assumes nothing.
-use Rattle.std.specs.Prelude.{◌≡◌, ℕ, ◌^◌, List, [], ◌∷◌, vec_items}
+use Rattle.std.specs.Prelude.{◌≡◌, ℕ, ◌^◌, List, map, vec_items}
+use Rattle.std.specs.List.{zip}
 use Rattle.recordings.specs.declared.entries.ChannelEntry.{ChannelEntry}
 use Rattle.recordings.specs.Laws.{IsReadBack}
 use Rattle.recordings.specs.Layout.{encoded}
@@ -10,9 +11,7 @@ use Rattle.sheets.specs.declared.making.RecordError.TheVariants.{Refused, NoMemo
 
 -- each modulus with its bound; what has no partner is left out
 abbrev pub paired : (ms bs : List ℕ) → List ChannelEntry
-paired [] bs = []
-paired (m ∷ ms) [] = []
-paired (m ∷ ms) (b ∷ bs) = record { modulus = m; bound = b } ∷ paired ms bs
+paired ms bs = map (λ p. record { modulus = p.0; bound = p.1 }) (zip ms bs)
 
 abbrev pub entries_of_table : Sheet → List ChannelEntry
 entries_of_table s = paired (vec_items s.moduli) (vec_items s.bounds)

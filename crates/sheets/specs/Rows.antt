@@ -1,5 +1,5 @@
 -- The bytes of the table that a recording is printed as. Assumes nothing.
-use Rattle.std.specs.Prelude.{ℕ, zero, suc, ◌-◌, ◌/◌, ◌^◌, Bool, true, false, cond, List, [], ◌∷◌, ◌++◌, length, Some, None, codes, decimal, Option, ◌==◌}
+use Rattle.std.specs.Prelude.{ℕ, zero, suc, ◌-◌, ◌/◌, ◌^◌, cond, List, [], ◌∷◌, ◌++◌, length, Some, None, codes, decimal, Option, ◌==◌}
 use Rattle.std.specs.List.{flat_map, slice_get}
 use Rattle.std.specs.Option.{option_map, unwrap_or}
 use Rattle.recordings.specs.declared.entries.ChannelEntry.{ChannelEntry}
@@ -24,17 +24,20 @@ abbrev pub row_lines : (xs : List ℕ) (c n : ℕ) → List ℕ
 row_lines xs c zero = []
 row_lines xs c (suc i) = row_lines xs c i ++ (cells xs c i c ++ codes "\n")
 
--- the entries' moduli, or their bounds, each after a space
-abbrev pub figure_of : Bool → ChannelEntry → ℕ
-figure_of bound e = cond bound e.bound e.modulus
+abbrev pub modulus_of : ChannelEntry → ℕ
+modulus_of e = e.modulus
 
--- that of entry k, and 0 where there is none
-abbrev pub figure_at : Bool → List ChannelEntry → (k : ℕ) → ℕ
-figure_at bound es k = unwrap_or (option_map (figure_of bound) (slice_get es k)) 0
+abbrev pub bound_of : ChannelEntry → ℕ
+bound_of e = e.bound
 
-abbrev pub figure_words : Bool → List ChannelEntry → List ℕ
-figure_words bound es = flat_map (λ e. 32 ∷ decimal (figure_of bound e)) es
+-- a figure of entry k, its modulus or its bound, and 0 where there is none
+abbrev pub figure_at : (figure_of : ChannelEntry → ℕ) → List ChannelEntry → (k : ℕ) → ℕ
+figure_at figure_of es k = unwrap_or (option_map figure_of (slice_get es k)) 0
+
+-- a figure of each entry, each after a space
+abbrev pub figure_words : (figure_of : ChannelEntry → ℕ) → List ChannelEntry → List ℕ
+figure_words figure_of es = flat_map (λ e. 32 ∷ decimal (figure_of e)) es
 
 -- the lines after the note: moduli, bounds, and the rows
 abbrev pub table_of : (xs : List ℕ) (es : List ChannelEntry) → List ℕ
-table_of xs es = codes "moduli" ++ (figure_words false es ++ (codes "\nbounds" ++ (figure_words true es ++ (codes "\n" ++ row_lines xs (length es) (length xs / length es)))))
+table_of xs es = codes "moduli" ++ (figure_words modulus_of es ++ (codes "\nbounds" ++ (figure_words bound_of es ++ (codes "\n" ++ row_lines xs (length es) (length xs / length es)))))

@@ -10,7 +10,7 @@ use tables::BadText;
 
 /// What is wrong with a line, or with the end of the input: the text is no
 /// table, or its lines do not have the same length.
-#[derive(Clone, Copy, Drop)]
+#[derive(Clone, Copy, PartialEq, Eq, Debug)]
 pub enum BadSheet {
     NotTable(BadText),
     UnevenBounds { bounds: usize, moduli: usize },

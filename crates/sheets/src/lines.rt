@@ -1,8 +1,7 @@
 // A table as it is collected, line after line.
-ghost use Rattle.std.specs.Prelude.{◌≡◌, true, [], MatchResult, ◌≢◌};
-ghost use Rattle.sheets.specs.Lines.{Collects, Holds, end_of};
+ghost use Rattle.std.specs.Prelude.{◌≡◌, [], length, MatchResult, ◌≢◌};
+ghost use Rattle.sheets.specs.Lines.{Collects, Even, Holds, Uneven, end_of};
 ghost use Rattle.sheets.specs.declared.errors.BadSheet.TheVariants.{UnevenBounds, UnevenRow};
-ghost use Rattle.tables.specs.Ready.{complete};
 ghost use Rattle.tables.specs.declared.parts.Part.TheVariants.{Row};
 ghost use Rattle.tables.specs.Tables.{allowed, seen_in};
 
@@ -14,6 +13,7 @@ use tables::{Heading, Part};
 
 /// What was collected of a table: its note, moduli and bounds, and the numbers
 /// of all rows, row after row.
+// Moduli and bounds are two lists, since they stand in two lines, either of which may come first.
 #[derive(Drop)]
 pub struct Sheet {
     pub(crate) heading: Heading,
@@ -44,28 +44,25 @@ impl Sheet {
         ensures { Collects self text.now result }
     {
         match self.heading.line(text, &mut self.numbers)? {
-            Part::Passed => Ok(self),
+            Part::Passed => {}
             Part::Note => {
                 self.note.clear();
                 self.note.extend_from_slice(note_text(text))?;
-                Ok(self)
             }
             Part::Moduli => {
                 mem::swap(&mut self.moduli, &mut self.numbers);
-                check_bounds(&self.heading, self.moduli.len(), self.bounds.len())?;
-                Ok(self)
+                self.check_bounds()?;
             }
             Part::Bounds => {
                 mem::swap(&mut self.bounds, &mut self.numbers);
-                check_bounds(&self.heading, self.moduli.len(), self.bounds.len())?;
-                Ok(self)
+                self.check_bounds()?;
             }
             Part::Row => {
-                check_row(self.numbers.len(), self.moduli.len())?;
+                self.check_row()?;
                 self.rows.extend_from_slice(self.numbers.as_slice())?;
-                Ok(self)
             }
         }
+        Ok(self)
     }
 
     /// What is wrong with a table that ends here, if anything is.
@@ -75,24 +72,28 @@ impl Sheet {
         self.heading.end()?;
         Ok(())
     }
-}
 
-/// That there are as many bounds as moduli, once there are both.
-fn check_bounds(heading: &Heading, moduli: usize, bounds: usize) -> Result<(), BadSheet>
-    ensures { MatchResult result (λ _. complete heading.now ≡ true → bounds ≡ moduli) (λ e. (e ≡ UnevenBounds bounds moduli) × (complete heading.now ≡ true) × (bounds ≢ moduli)) }
-{
-    if heading.is_complete() && bounds != moduli {
-        return Err(BadSheet::UnevenBounds { bounds, moduli });
+    /// That there are as many bounds as moduli, once there are both.
+    fn check_bounds(&self) -> Result<(), BadSheet>
+        ensures { MatchResult result (λ _. Even self.now.heading self.now.moduli.items self.now.bounds.items) (λ e. (e ≡ UnevenBounds (length self.now.bounds.items) (length self.now.moduli.items)) × Uneven self.now.heading self.now.moduli.items self.now.bounds.items (length self.now.bounds.items) (length self.now.moduli.items)) }
+    {
+        let moduli = self.moduli.len();
+        let bounds = self.bounds.len();
+        if self.heading.is_complete() && bounds != moduli {
+            return Err(BadSheet::UnevenBounds { bounds, moduli });
+        }
+        Ok(())
     }
-    Ok(())
-}
 
-/// That a row has as many numbers as there are moduli.
-fn check_row(numbers: usize, moduli: usize) -> Result<(), BadSheet>
-    ensures { MatchResult result (λ _. numbers ≡ moduli) (λ e. (e ≡ UnevenRow numbers moduli) × (numbers ≢ moduli)) }
-{
-    if numbers != moduli {
-        return Err(BadSheet::UnevenRow { numbers, moduli });
+    /// That the line's numbers are a row: as many as there are moduli.
+    fn check_row(&self) -> Result<(), BadSheet>
+        ensures { MatchResult result (λ _. length self.now.numbers.items ≡ length self.now.moduli.items) (λ e. (e ≡ UnevenRow (length self.now.numbers.items) (length self.now.moduli.items)) × (length self.now.numbers.items ≢ length self.now.moduli.items)) }
+    {
+        let numbers = self.numbers.len();
+        let moduli = self.moduli.len();
+        if numbers != moduli {
+            return Err(BadSheet::UnevenRow { numbers, moduli });
+        }
+        Ok(())
     }
-    Ok(())
 }

@@ -1,7 +1,7 @@
 // The recording of a sheet, as bytes.
-ghost use Rattle.std.specs.Prelude.{◌≡◌, ◌+◌, ◌*◌, ◌^◌, ◌≤◌, MatchResult};
+ghost use Rattle.std.specs.Prelude.{◌≡◌, ◌+◌, ◌*◌, ◌^◌, ◌≤◌, IfOk, MatchResult};
 ghost use Rattle.sheets.specs.Making.{Encodes, NotEncoded, entries_of_table, paired};
-ghost use Rattle.sheets.specs.declared.making.RecordError.TheVariants.{NoMemory};
+ghost use Rattle.sheets.specs.declared.making.RecordError.TheVariants.{NoMemory, Refused};
 
 use crate::lines::Sheet;
 use encoding::{WriteRefusal, write};
@@ -9,10 +9,18 @@ use recordings::ChannelEntry;
 use std::alloc::{AllocError, AllocFailed as NoPlace, Global};
 
 /// Why a sheet is not recorded: the writer refuses it, or memory is wanting.
-#[derive(Clone, Copy, Drop)]
+#[derive(Clone, Copy, PartialEq, Eq, Debug)]
 pub enum RecordError {
     Refused(WriteRefusal),
     NoMemory,
+}
+
+impl From<WriteRefusal> for RecordError {
+    ghost from_gives = { λ e r. r ≡ Refused e };
+
+    fn from(refusal: WriteRefusal) -> RecordError {
+        RecordError::Refused(refusal)
+    }
 }
 
 impl From<AllocError> for RecordError {
@@ -23,6 +31,7 @@ impl From<AllocError> for RecordError {
     }
 }
 
+// A second impl, for callers that push: one for all that become an `AllocError` would cross `From<T> for T`.
 impl<T: Drop> From<NoPlace<T>> for RecordError {
     ghost from_gives = { λ _ r. r ≡ NoMemory };
 
@@ -32,12 +41,13 @@ impl<T: Drop> From<NoPlace<T>> for RecordError {
 }
 
 /// The largest recording that is written.
-const LIMIT: usize = 2147483648;
+const LIMIT: usize = 1 << 31;
 
 /// The bytes of a recording with so many in its note, numbers and channels; at most the limit.
 fn room(note: usize, numbers: usize, channels: usize) -> usize
     ensures { note + 4 * numbers + 8 * channels + 16 ≤ 2 ^ 31 → result ≡ note + 4 * numbers + 8 * channels + 16 }
 {
+    // A count that would wrap stays at the greatest number, which is above the limit.
     numbers
         .saturating_mul(4)
         .saturating_add(channels.saturating_mul(8))
@@ -47,20 +57,14 @@ fn room(note: usize, numbers: usize, channels: usize) -> usize
 }
 
 /// Each modulus with its bound.
-fn pair(heap: Global, moduli: &[u32], bounds: &[u32]) -> Result<Vec<ChannelEntry>, RecordError>
-    ensures { MatchResult result (λ v. v.items ≡ paired moduli.now bounds.now) (λ e. e ≡ NoMemory) }
+fn pair(heap: Global, moduli: &[u32], bounds: &[u32]) -> Result<Vec<ChannelEntry>, AllocError>
+    ensures { IfOk result (λ entries. entries.items ≡ paired moduli.now bounds.now) }
 {
-    let mut entries: Vec<ChannelEntry> = Vec::new(heap);
-    for (i, modulus) in moduli.iter().enumerate() {
-        if i >= bounds.len() {
-            return Ok(entries);
-        }
-        entries.push(ChannelEntry {
-            modulus: *modulus,
-            bound: bounds[i],
-        })?;
-    }
-    Ok(entries)
+    moduli
+        .iter()
+        .zip(bounds)
+        .map(|(&modulus, &bound)| ChannelEntry { modulus, bound })
+        .collect(heap)
 }
 
 /// The recording of a note, rows and entries.
@@ -74,13 +78,9 @@ fn encode(
 {
     let room = room(note.len(), rows.len(), entries.len());
     let mut bytes: Vec<u8> = vec![in heap; 0; room]?;
-    match write(bytes.as_mut_slice(), note, rows, entries) {
-        Ok(length) => {
-            bytes.truncate(length);
-            Ok(bytes)
-        }
-        Err(refusal) => Err(RecordError::Refused(refusal)),
-    }
+    let length = write(bytes.as_mut_slice(), note, rows, entries)?;
+    bytes.truncate(length);
+    Ok(bytes)
 }
 
 impl Sheet {

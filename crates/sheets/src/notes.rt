@@ -9,21 +9,16 @@ const NOTE_BYTES: usize = 5;
 fn without_spaces(line: &[u8]) -> &[u8]
     ensures { result.now ≡ unspaced line.now }
 {
-    for (i, b) in line.iter().enumerate() {
-        if *b != b' ' {
-            return &line[i..];
-        }
+    let mut rest = line;
+    while let [b' ', after @ ..] = rest {
+        rest = after;
     }
-    &[]
+    rest
 }
 
 /// The text of a note line: what follows `note` and one space, to the end of the line.
 pub(crate) fn note_text(line: &[u8]) -> &[u8]
     ensures { result.now ≡ note_text line.now }
 {
-    let text = without_spaces(line);
-    if text.len() < NOTE_BYTES {
-        return &[];
-    }
-    &text[NOTE_BYTES..]
+    without_spaces(line).get(NOTE_BYTES..).unwrap_or(&[])
 }

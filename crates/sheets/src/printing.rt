@@ -8,7 +8,7 @@ ghost use Rattle.sheets.specs.Printing.{IsText, Noted, Printed, Visible, visible
 ghost use Rattle.sheets.specs.Rows.{table_of};
 ghost use Rattle.std.specs.List.{AllByRecursion};
 
-use crate::rows::{Figures, Rows};
+use crate::rows::{Bounds, Moduli, Rows};
 use recordings::{CheckRefusal, Recording};
 use std::alloc::{AllocError, Global};
 use std::str::from_utf8;
@@ -18,19 +18,14 @@ use tables::refusal_line;
 fn is_visible(byte: u8) -> bool
     ensures { result ≡ visible byte }
 {
-    byte >= 32 && byte != 127
+    !byte.is_ascii_control()
 }
 
 /// Whether every byte is visible.
 fn all_visible(note: &[u8]) -> bool
     ensures { MatchBool result (AllByRecursion Visible note.now) (AllByRecursion Visible note.now → ⊥) }
 {
-    for b in note {
-        if !is_visible(*b) {
-            return false;
-        }
-    }
-    true
+    note.iter().all(|&byte| is_visible(byte))
 }
 
 /// A note that is one line of text.
@@ -40,24 +35,15 @@ fn text_of(note: &[u8]) -> Option<&str>
     if note.is_empty() || !all_visible(note) {
         return None;
     }
-    match from_utf8(note) {
-        Ok(text) => Some(text),
-        Err(_) => None,
-    }
+    from_utf8(note).ok()
 }
 
 /// The lines after the note.
 fn table(heap: Global, recording: &Recording) -> Result<String, AllocError>
     ensures { IfOk result (λ s. string_bytes s ≡ table_of (rows_of recording.now) (entries_of recording.now)) }
 {
-    let moduli = Figures {
-        recording: *recording,
-        bound: false,
-    };
-    let bounds = Figures {
-        recording: *recording,
-        bound: true,
-    };
+    let moduli = Moduli(*recording);
+    let bounds = Bounds(*recording);
     let rows = Rows(*recording);
     format!(in heap; "moduli{moduli}\nbounds{bounds}\n{rows}")
 }
@@ -84,13 +70,14 @@ fn noted(heap: Global, recording: &Recording) -> Result<String, AllocError>
 fn refused(heap: Global, refusal: CheckRefusal) -> Result<String, AllocError>
     ensures { IfOk result (λ s. string_bytes s ≡ refusal_line (check_fault refusal) ++ codes "\n") }
 {
-    let line = refusal_line(heap, refusal.fault())?;
+    let line = refusal_line(heap, refusal.into())?;
     format!(in heap; "{line}\n")
 }
 
 /// The text that these bytes are printed as: the table of the recording that
 /// they are, or the line of the check's refusal.
 /// The law says that the lines before the rows are read back.
+#[tactic(auto, using(crate::proofs::Returning::headings_back))]
 pub fn printed(heap: Global, bytes: &[u8]) -> Result<String, AllocError>
     ensures law { HeadingsBack }
     ensures text { IfOk result (λ s. Printed bytes.now (string_bytes s)) }

@@ -1,13 +1,15 @@
 // The parts of a printed table: entries, rows and their numbers.
-ghost use Rattle.std.specs.Prelude.{◌≡◌, ◌/◌, length, Some};
+ghost use Rattle.std.specs.Prelude.{◌≡◌, ℕ, ◌/◌, length, Some};
+ghost use Rattle.std.specs.Fmt.{WritesOnOk};
+ghost use Rattle.recordings.specs.declared.entries.ChannelEntry.{ChannelEntry};
 ghost use Rattle.recordings.specs.Contents.{entries_of, rows_of};
-ghost use Rattle.sheets.specs.Rows.{cells, figure_at, figure_words, gap_of, row_lines, word_of};
+ghost use Rattle.sheets.specs.Rows.{bound_of, cells, figure_words, gap_of, modulus_of, row_lines, word_of};
 
-use recordings::Recording;
+use recordings::{ChannelEntry, Recording};
 use std::fmt;
 
 /// The number that is printed as a dash.
-const DARK: u32 = 4294967295;
+const DARK: u32 = u32::MAX;
 
 /// A number of a row.
 #[derive(Clone, Copy)]
@@ -19,13 +21,8 @@ impl fmt::Display for Word {
     fn fmt<W: fmt::Write>(&self, f: &mut fmt::Formatter<W>) -> fmt::Result {
         match self.0 {
             None => Ok(()),
-            Some(number) => {
-                if number == DARK {
-                    f.write_str("-")
-                } else {
-                    write!(f, "{number}")
-                }
-            }
+            Some(DARK) => f.write_str("-"),
+            Some(number) => write!(f, "{number}"),
         }
     }
 }
@@ -48,6 +45,7 @@ impl fmt::Display for Row<'_> {
     ghost output = { λ x. Some (cells (rows_of x.recording) (length (entries_of x.recording)) x.row (length (entries_of x.recording))) };
 
     fn fmt<W: fmt::Write>(&self, f: &mut fmt::Formatter<W>) -> fmt::Result {
+        // By number, which tells the gap too: a recording has no slice of a row.
         for channel in 0..self.recording.channel_count() {
             let gap = gap(channel);
             let word = Word(self.recording.number(self.row, channel));
@@ -65,6 +63,7 @@ impl fmt::Display for Rows<'_> {
     ghost output = { λ x. Some (row_lines (rows_of x.0) (length (entries_of x.0)) (length (rows_of x.0) / length (entries_of x.0))) };
 
     fn fmt<W: fmt::Write>(&self, f: &mut fmt::Formatter<W>) -> fmt::Result {
+        // By number, which is what a row is made of: a recording has no slice of rows.
         for row in 0..self.0.row_count() {
             let line = Row {
                 recording: self.0,
@@ -76,32 +75,44 @@ impl fmt::Display for Rows<'_> {
     }
 }
 
-/// The modulus of a channel, or its bound; 0 where there is no such channel.
-fn figure(recording: &Recording, bound: bool, channel: usize) -> u32
-    ensures { result ≡ figure_at bound (entries_of recording.now) channel }
+/// Writes what `figure` picks of each entry, each after a space.
+fn write_figures<W: fmt::Write, F: Fn(ChannelEntry) -> u32>(
+    f: &mut fmt::Formatter<W>,
+    recording: &Recording,
+    figure: F,
+) -> fmt::Result
+    requires { F.IsAlwaysCallable figure }
+    ensures { (figure_of : ChannelEntry → ℕ) → ((e : ChannelEntry) (n : ℕ) → F.post figure e n → n ≡ figure_of e) → WritesOnOk W.write_str_gives f.old result (figure_words figure_of (entries_of recording.now)) f.new }
 {
-    match recording.entry(channel) {
-        None => 0,
-        Some(entry) if bound => entry.bound,
-        Some(entry) => entry.modulus,
+    // By number: over a chain of entries the check makes an ill-typed statement of this loop, which has type parameters.
+    for channel in 0..recording.channel_count() {
+        if let Some(entry) = recording.entry(channel) {
+            write!(f, " {}", figure(entry))?;
+        }
+    }
+    Ok(())
+}
+
+/// The moduli of a recording, each after a space.
+#[derive(Clone, Copy)]
+pub(crate) struct Moduli<'a>(pub(crate) Recording<'a>);
+
+impl fmt::Display for Moduli<'_> {
+    ghost output = { λ x. Some (figure_words modulus_of (entries_of x.0)) };
+
+    fn fmt<W: fmt::Write>(&self, f: &mut fmt::Formatter<W>) -> fmt::Result {
+        write_figures(f, &self.0, |entry| entry.modulus)
     }
 }
 
-/// The moduli of a recording, or its bounds, each after a space.
+/// The bounds of a recording, each after a space.
 #[derive(Clone, Copy)]
-pub(crate) struct Figures<'a> {
-    pub(crate) recording: Recording<'a>,
-    pub(crate) bound: bool,
-}
+pub(crate) struct Bounds<'a>(pub(crate) Recording<'a>);
 
-impl fmt::Display for Figures<'_> {
-    ghost output = { λ x. Some (figure_words x.bound (entries_of x.recording)) };
+impl fmt::Display for Bounds<'_> {
+    ghost output = { λ x. Some (figure_words bound_of (entries_of x.0)) };
 
     fn fmt<W: fmt::Write>(&self, f: &mut fmt::Formatter<W>) -> fmt::Result {
-        for channel in 0..self.recording.channel_count() {
-            let number = figure(&self.recording, self.bound, channel);
-            write!(f, " {number}")?;
-        }
-        Ok(())
+        write_figures(f, &self.0, |entry| entry.bound)
     }
 }

@@ -1,43 +1,33 @@
 // show: prints the recording on standard input as a table.
 #![tactic(auto)]
 
-use anyhow::anyhow;
+use programs::{Program, serve};
 use sheets::printed;
-use std::env;
 use std::io::Read;
 use std::process::ExitCode;
 
-const USAGE: &str = "usage: show < RECORDING
+struct Show;
+
+impl Program<HostRuntime> for Show {
+    const NAME: &'static str = "show";
+
+    const PREFIX: &'static str = "show: ";
+
+    const USAGE: &'static str = "usage: show < RECORDING
 Prints the recording as a table of moduli, bounds and rows, or why it is none, as
   refused 48 channel 0 depth 0
 ";
 
-fn run(rt: &HostRuntime) -> anyhow::Result<()> {
-    let mut args = env::args(rt)?;
-    let _ = args.next();
-    match args.next() {
-        None => {
-            let mut bytes = Vec::new(rt.alloc());
-            rt.stdin().read_to_end(&mut bytes)?;
-            rt.print(printed(rt.alloc(), bytes.as_slice())?.as_str())?;
-            Ok(())
-        }
-        Some(arg) if arg.as_str() == "--help" => {
-            rt.print(USAGE)?;
-            Ok(())
-        }
-        Some(_) => Err(anyhow!("unknown argument; --help tells the usage")),
+    fn job(rt: &HostRuntime) -> anyhow::Result<()> {
+        let mut bytes = Vec::new(rt.alloc());
+        rt.stdin().read_to_end(&mut bytes)?;
+        rt.print(printed(rt.alloc(), bytes.as_slice())?.as_str())?;
+        Ok(())
     }
 }
 
 fn main(rt: HostRuntime) -> ExitCode {
-    match run(&rt) {
-        Ok(()) => ExitCode::SUCCESS,
-        Err(e) => {
-            let _ = eprintln!(rt; "show: {e}");
-            ExitCode::FAILURE
-        }
-    }
+    serve::<Show, _>(&rt)
 }
 
 #[cfg(test)]
@@ -50,21 +40,16 @@ mod tests {
     #[test]
     fn a_table_comes_back(rt: HostRuntime) -> Result<(), Fail> {
         let heap = rt.alloc();
-        let Ok(sheet) = Sheet::new(heap).line(b"note rail 4") else {
-            return Err(Fail::new("note"));
-        };
-        let Ok(sheet) = sheet.line(b"moduli 30 40") else {
-            return Err(Fail::new("moduli"));
-        };
-        let Ok(sheet) = sheet.line(b"bounds 2 0") else {
-            return Err(Fail::new("bounds"));
-        };
-        let Ok(sheet) = sheet.line(b"19 -") else {
-            return Err(Fail::new("row"));
-        };
-        let Ok(bytes) = sheet.record(heap) else {
-            return Err(Fail::new("not recorded"));
-        };
+        let lines = [
+            b"note rail 4".as_slice(),
+            b"moduli 30 40",
+            b"bounds 2 0",
+            b"19 -",
+        ];
+        let sheet = lines
+            .iter()
+            .try_fold(Sheet::new(heap), |sheet, line| sheet.line(line))?;
+        let bytes = sheet.record(heap)?;
         assert_eq!(rt;
             printed(heap, bytes.as_slice())?.as_str(),
             "note rail 4\nmoduli 30 40\nbounds 2 0\n19 -\n"

@@ -1,11 +1,10 @@
 -- The numbers of a line, one after another. Assumes nothing.
-use Rattle.std.proofs.Common.{◌≡◌, ℕ, ◌+◌, Bool, true, false, List, [], ◌∷◌, ◌++◌, Ok, Err, codes, Result, sym, refl, ap, ◌∙◌, append_assoc}
-use Rattle.std.specs.Str.{bytes_eq}
+use Rattle.std.proofs.Common.{◌≡◌, ℕ, suc, ◌+◌, ◌<◌, ◌≤◌, Bool, List, [], ◌∷◌, ◌++◌, length, drop, get_or, Ok, Err, Result, sym, refl, ap, ◌∙◌, append_assoc, append-nil, zero-add, add-one, arith, length-drop, get_or-drop, drop-cons}
+use Rattle.std.proofs.lemmas.List.FromFn.{get_or-enumerate_from, length-enumerate_from}
+use Rattle.std.proofs.lemmas.List.{drop_all}
+use Rattle.std.specs.List.{enumerate_from}
 use Rattle.tables.specs.declared.errors.BadText.{BadText}
-use Rattle.tables.specs.declared.errors.BadText.TheVariants.{Dash}
-use Rattle.tables.specs.declared.numerals.NoNumber.{NoNumber}
-use Rattle.tables.specs.Numbers.{placed, ahead, number_at, numbers_from}
-use Rattle.tables.specs.Numerals.{number_in}
+use Rattle.tables.specs.Numbers.{ahead, number_at, numbers_from}
 
 -- numbers that are read before what is still to read
 abbrev pub onto : List ℕ → Result (List ℕ) BadText → Result (List ℕ) BadText
@@ -23,17 +22,35 @@ pub onto_more : (xs : List ℕ) (n : ℕ) (r : Result (List ℕ) BadText) → on
 onto_more xs n (Ok ns) = ap Ok (append_assoc xs (n ∷ []) ns)
 onto_more xs n (Err e) = refl
 
--- the word at a place, by the tests of `number_at`
-pub dash_dark : (w : List ℕ) (k : ℕ) (d : Bool) → bytes_eq w (codes "-") ≡ true → d ≡ true → Ok 4294967295 ≡ number_at d k w
-dash_dark w k d e t = rw (e, t) refl
+-- the word that comes after j others of those that stand after the first n
+pub record Turn (ws : List (List ℕ)) (k i : ℕ) (w : List ℕ) : Type 0 where
+  pub place : i ≡ k
+  pub cut : drop k ws ≡ w ∷ drop (k + 1) ws
+  pub within : k < length ws
 
-pub dash_lit : (w : List ℕ) (k : ℕ) (d : Bool) → bytes_eq w (codes "-") ≡ true → d ≡ false → Err (Dash k) ≡ number_at d k w
-dash_lit w k d e t = rw (e, t) refl
+pub turn_at : (ws : List (List ℕ)) (n j : ℕ) (p : ℕ × List ℕ) → (j < length (drop n (enumerate_from 0 ws))) × (p ≡ get_or (drop n (enumerate_from 0 ws)) j p) → Turn ws (n + j) p.0 p.1
+turn_at ws n j p (lt, e) =
+    let within : n + j < length ws = omega (arith, length-drop n (enumerate_from 0 ws), length-enumerate_from 0 ws, lt) in
+    let is = e ∙ get_or-drop n (enumerate_from 0 ws) j p ∙ get_or-enumerate_from 0 ws (n + j) p within in
+    let word : p.1 ≡ get_or ws (n + j) p.1 = ap (λ (q : ℕ × List ℕ). q.1) is in
+    record {
+      place = ap (λ (q : ℕ × List ℕ). q.0) is ∙ zero-add (n + j);
+      cut = rw add-one (drop-cons ws (n + j) p.1 within ∙ ap (λ w. w ∷ drop (suc (n + j)) ws) (sym word));
+      within = within;
+    }
 
-pub no_dash : (w : List ℕ) (k : ℕ) (d : Bool) (r : Result ℕ NoNumber) → bytes_eq w (codes "-") ≡ false → r ≡ number_in w → placed k r ≡ number_at d k w
-no_dash w k d r e is = rw e (ap (placed k) is)
+module _ (d : Bool) (ws : List (List ℕ)) (k i : ℕ) (w xs : List ℕ) (told : Result (List ℕ) BadText) (t : Turn ws k i w) (so : onto xs (numbers_from d k (drop k ws)) ≡ told) where
+  read : (r : Result ℕ BadText) → number_at d (i + 1) w ≡ r → onto xs (ahead r (numbers_from d (k + 1) (drop (k + 1) ws))) ≡ told
+  read r is =
+      sym (ap (λ l. onto xs (numbers_from d k l)) t.cut ∙ ap (λ q. onto xs (ahead q (numbers_from d (k + 1) (drop (k + 1) ws)))) (ap (λ q. number_at d (q + 1) w) (sym t.place) ∙ is)) ∙ so
 
--- a turn of `read_numbers`
-pub one_more : (d : Bool) (k : ℕ) (w : List ℕ) (ws all : List (List ℕ)) (xs ys : List ℕ) (n : ℕ) (told : Result (List ℕ) BadText) → all ≡ w ∷ ws → number_at d (k + 1) w ≡ Ok n → ys ≡ xs ++ n ∷ [] → onto xs (numbers_from d k all) ≡ told → onto ys (numbers_from d (k + 1) ws) ≡ told
-one_more d k w ws all xs ys n told cut is pushed so =
-    ap (λ l. onto l (numbers_from d (k + 1) ws)) pushed ∙ onto_more xs n (numbers_from d (k + 1) ws) ∙ sym (ap (λ r. onto xs (ahead r (numbers_from d (k + 1) ws))) is) ∙ sym (ap (λ l. onto xs (numbers_from d k l)) cut) ∙ so
+  pub reads_more : (m n : ℕ) (ys : List ℕ) → m ≡ k + 1 → number_at d (i + 1) w ≡ Ok n → ys ≡ xs ++ n ∷ [] → onto ys (numbers_from d m (drop m ws)) ≡ told
+  reads_more m n ys next is pushed =
+      ap (λ q. onto ys (numbers_from d q (drop q ws))) next ∙ ap (λ l. onto l (numbers_from d (k + 1) (drop (k + 1) ws))) pushed ∙ onto_more xs n _ ∙ read (Ok n) is
+
+  pub stops : (e : BadText) → number_at d (i + 1) w ≡ Err e → told ≡ Err e
+  stops e is = sym (read (Err e) is)
+
+-- no word is left
+pub all_read : (d : Bool) (ws : List (List ℕ)) (k : ℕ) (xs : List ℕ) (told : Result (List ℕ) BadText) → length ws ≤ k → onto xs (numbers_from d k (drop k ws)) ≡ told → told ≡ Ok xs
+all_read d ws k xs told le so = sym so ∙ ap (λ l. onto xs (numbers_from d k l)) (drop_all k ws le) ∙ ap Ok (append-nil xs)

@@ -1,5 +1,12 @@
--- The first word of a text. Assumes nothing.
-use Rattle.std.proofs.Common.{◌≡◌, ℕ, zero, suc, ◌-◌, ◌<◌, ◌≤◌, Bool, true, false, List, [], ◌∷◌, length, get_or, take, drop, sym, refl, ap, ◌∙◌, add-zero, arith, length-drop, get_or-drop}
+-- The first word of a text, by the places of its first byte that is no space and of the space after it. Assumes nothing.
+use Rattle.std.proofs.Common.{◌≡◌, ℕ, zero, suc, ◌<◌, ◌≤◌, Bool, true, false, not, nat_lt, cond, List, [], ◌∷◌, Some, None, length, get_or, take, drop, position, refl, ap, ◌∙◌, add-zero, arith, length-drop, get_or-drop}
+use Rattle.std.proofs.lemmas.Bool.{not-false, not-true}
+use Rattle.std.proofs.lemmas.Bool.Decides.{nat_tests}
+use Rattle.std.proofs.lemmas.List.{drop_all}
+use Rattle.std.proofs.lemmas.List.Quantifiers.{position-Some}
+use Rattle.std.proofs.lemmas.List.Sums.{prefix_len-le-length, fails_before_first, passes_at_first}
+use Rattle.std.specs.List.{position_or_len}
+use Rattle.std.specs.Option.{unwrap_or}
 use Rattle.tables.specs.Words.{is_space, words}
 
 pub past_spaces : (n : ℕ) (bs : List ℕ) → n ≤ length bs → ((k : ℕ) → k < n → is_space (get_or bs k 0) ≡ true) → words bs ≡ words (drop n bs)
@@ -19,42 +26,37 @@ first_run (suc n) (b ∷ c ∷ cs) l h s =
     let next = h 1 (omega arith) in
     simp here (rw more (rw next refl))
 
-true_from : (b : Bool) → (b ≡ false → ⊥) → b ≡ true
-true_from true h = refl
-true_from false h = absurd (h refl)
+abbrev pub visible : ℕ → Bool
+visible b = not (is_space b)
 
--- rest is the text bs after its m leading spaces, and its first n bytes are its first run of other bytes
-pub record Fronts (bs rest : List ℕ) (m n : ℕ) : Type 0 where
-  pub inside : m ≤ length bs
-  pub gap : (k : ℕ) → k < m → is_space (get_or bs k 0) ≡ true
-  pub begins : m < length bs → is_space (get_or bs m 0) ≡ true → ⊥
-  pub left : rest ≡ drop m bs
-  pub within : n ≤ length rest
-  pub solid : (k : ℕ) → k < n → is_space (get_or rest k 0) ≡ false
-  pub ends : n < length rest → is_space (get_or rest n 0) ≡ false → ⊥
+none_past : (n m : ℕ) → cond (nat_lt n m) (Some n) None ≡ None → m ≤ n
+none_past n m e = grind (arith, nat_tests)
 
-module _ {bs rest : List ℕ} {m n : ℕ} (h : Fronts bs rest m n) where
-  same : words bs ≡ words rest
-  same = past_spaces m bs h.inside h.gap ∙ ap words (sym h.left)
+end_is : (n m : ℕ) → n ≤ m → unwrap_or (cond (nat_lt n m) (Some n) None) m ≡ n
+end_is n m le = grind (arith, nat_tests)
 
-  long : length rest ≡ length bs - m
-  long = ap length h.left ∙ length-drop m bs
+-- where the first space is, or the end
+pub first_space : (bs : List ℕ) → unwrap_or (position is_space bs) (length bs) ≡ position_or_len is_space bs
+first_space bs = end_is _ _ (prefix_len-le-length (λ b. not (is_space b)) bs)
 
-  first : is_space (get_or rest 0 0) ≡ true → 0 < length rest → ⊥
-  first e some = h.begins (omega (arith, long)) (sym (ap is_space (ap (λ l. get_or l 0 0) h.left ∙ get_or-drop m bs 0 0 ∙ ap (λ i. get_or bs i 0) (add-zero m))) ∙ e)
+pub no_word : (bs : List ℕ) → position visible bs ≡ None → words bs ≡ []
+no_word bs e =
+    let none : length bs ≤ position_or_len visible bs = none_past _ _ e in
+    past_spaces (length bs) bs (omega arith) (λ k lt. not-false _ (fails_before_first visible bs k 0 (omega arith))) ∙ ap words (drop_all (length bs) bs (omega arith))
 
-  pub no_word : n ≡ 0 → words bs ≡ []
-  no_word none = same ∙ by rest refl
-    where
-      by : (l : List ℕ) → rest ≡ l → words l ≡ []
-      by [] e = refl
-      by (b ∷ l) e =
-          let some : 0 < length rest = omega (arith, ap length e) in
-          absurd (first (true_from _ (λ f. h.ends (omega arith) (ap (λ i. is_space (get_or rest i 0)) none ∙ f))) some)
-
-  pub one_word : 0 < n → (words bs ≡ take n rest ∷ words (drop n rest)) × (length (drop n rest) < length bs)
-  one_word some = (same ∙ by n refl, omega (arith, long, length-drop n rest, h.within))
-    where
-      by : (k : ℕ) → n ≡ k → words rest ≡ take n rest ∷ words (drop n rest)
-      by zero e = absurd (omega arith)
-      by (suc k) e = rw e (first_run k rest (omega (arith, h.within)) (λ j lt. h.solid j (omega arith)) (λ lt. true_from _ (λ f. h.ends (omega arith) (ap (λ i. is_space (get_or rest i 0)) e ∙ f))))
+pub one_word : (bs : List ℕ) (i n : ℕ) → position visible bs ≡ Some i → n ≡ position_or_len is_space (drop i bs) → (words bs ≡ take n (drop i bs) ∷ words (drop n (drop i bs))) × (length (drop n (drop i bs)) < length bs)
+one_word bs i n e is =
+    let at = position-Some visible bs i 0 e in
+    let begins : is_space (get_or (drop i bs) 0 0) ≡ false = ap is_space (get_or-drop i bs 0 0 ∙ ap (λ j. get_or bs j 0) (add-zero i)) ∙ not-true _ at.1 in
+    let within : n ≤ length (drop i bs) = omega (arith, is, prefix_len-le-length (λ b. not (is_space b)) (drop i bs)) in
+    let word = first (drop i bs) n is begins within (omega (arith, at.0, length-drop i bs)) in
+    (past_spaces i bs (omega (arith, at.0)) (λ k lt. not-false _ (at.2 k lt)) ∙ word.0, omega (arith, word.1, length-drop i bs))
+  where
+    first : (rest : List ℕ) (k : ℕ) → k ≡ position_or_len is_space rest → is_space (get_or rest 0 0) ≡ false → k ≤ length rest → 0 < length rest → (words rest ≡ take k rest ∷ words (drop k rest)) × (length (drop k rest) < length rest)
+    first rest zero is begins within some =
+        let ends : is_space (get_or rest 0 0) ≡ true = ap (λ j. is_space (get_or rest j 0)) is ∙ passes_at_first is_space rest 0 (omega arith) in
+        cc
+    first rest (suc k) is begins within some = (
+      first_run k rest within (λ j lt. fails_before_first is_space rest j 0 (omega arith)) (λ lt. ap (λ j. is_space (get_or rest j 0)) is ∙ passes_at_first is_space rest 0 (omega arith)),
+      omega (arith, length-drop (suc k) rest),
+    )

@@ -1,8 +1,8 @@
 -- Result lines. Assumes nothing.
-use Rattle.std.specs.Prelude.{ℕ, List, ◌∷◌, ◌++◌, ℤ, Ok, Err, codes, decimal, Result}
+use Rattle.std.specs.Prelude.{ℕ, List, [], ◌∷◌, ◌++◌, fold, ℤ, Some, Ok, Err, codes, decimal, Option, Result}
 use Rattle.records.specs.declared.faults.Fault.{Fault}
 use Rattle.std.specs.List.{flat_map}
-use Rattle.std.specs.Fmt.{signed_decimal}
+use Rattle.std.specs.Fmt.{◌++?◌, signed_decimal}
 use Rattle.unfolding.specs.declared.kept.Unfolding.{Unfolding}
 use Rattle.unfolding.specs.declared.refusals.UnfoldRefusal.{UnfoldRefusal}
 use Rattle.unfolding.specs.Refusals.{unfold_fault}
@@ -11,6 +11,10 @@ use Rattle.unfolding.specs.Told.{folds_of, unfolded_of}
 -- each number after a space
 abbrev pub spaced_signed : List ℤ → List ℕ
 spaced_signed zs = flat_map (λ z. 32 ∷ signed_decimal z) zs
+
+-- the texts of values, each after a space; it says nothing where the text of one is not known
+abbrev pub spaced_output : {X : Type 0} → (X → Option (List ℕ)) → List X → Option (List ℕ)
+spaced_output text xs = fold (λ o x. o ++? (Some (32 ∷ []) ++? text x)) (Some []) xs
 
 abbrev pub refusal_line : Fault → List ℕ
 refusal_line f = codes "refused " ++ (decimal f.code ++ (codes " channel " ++ (decimal f.channel ++ (codes " depth " ++ decimal f.depth))))

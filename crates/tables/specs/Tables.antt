@@ -66,6 +66,13 @@ is_bounds Note = false
 is_bounds Moduli = false
 is_bounds Row = false
 
+abbrev pub is_row : Part → Bool
+is_row Row = true
+is_row Passed = false
+is_row Note = false
+is_row Moduli = false
+is_row Bounds = false
+
 -- whether one of the lines is such a part
 abbrev pub any_line : (Part → Bool) → List (List ℕ) → Bool
 any_line test [] = false

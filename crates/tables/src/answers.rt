@@ -1,18 +1,18 @@
 // Result lines: a refusal or an unfolding as one line of text.
 ghost use Rattle.std.specs.Prelude.{◌≡◌, IfOk, Some, string_bytes};
-ghost use Rattle.tables.specs.Answers.{parts_line, refusal_line, refusal_record, row_line, spaced_signed, unfolding_line};
+ghost use Rattle.tables.specs.Answers.{refusal_line, refusal_record, row_line, spaced_output, unfolding_line};
 
 use records::Fault;
 use std::alloc::{AllocError, Global};
 use std::fmt;
 use unfolding::{UnfoldRefusal, Unfolding};
 
-/// Numbers, each after a space.
+/// Values, each after a space.
 #[derive(Clone, Copy)]
-struct Spaced<'a>(&'a [i64]);
+pub struct Spaced<'a, T>(pub &'a [T]);
 
-impl fmt::Display for Spaced<'_> {
-    ghost output = { λ x. Some (spaced_signed x.0.now) };
+impl<T: fmt::Display> fmt::Display for Spaced<'_, T> {
+    ghost output = { λ x. spaced_output T.output x.0.now };
 
     fn fmt<W: fmt::Write>(&self, f: &mut fmt::Formatter<W>) -> fmt::Result {
         for n in self.0 {
@@ -26,57 +26,55 @@ impl fmt::Display for Spaced<'_> {
 pub fn refusal_line(heap: Global, fault: Fault) -> Result<String, AllocError>
     ensures { IfOk result (λ s. string_bytes s ≡ refusal_line fault) }
 {
-    let Fault {
-        code,
-        channel,
-        depth,
-        ..
-    } = fault;
-    format!(in heap; "refused {code} channel {channel} depth {depth}")
+    fault.to_string(heap)
+}
+
+/// A refusal with its two figures, as it is printed.
+#[derive(Clone, Copy)]
+pub struct RefusalRecord(pub Fault);
+
+impl fmt::Display for RefusalRecord {
+    ghost output = { λ x. Some (refusal_record x.0) };
+
+    fn fmt<W: fmt::Write>(&self, f: &mut fmt::Formatter<W>) -> fmt::Result {
+        let fault = self.0;
+        let Fault { first, second, .. } = fault;
+        write!(f, "{fault} figures {first} {second}")
+    }
 }
 
 /// A refusal with its two figures.
 pub fn refusal_record(heap: Global, fault: Fault) -> Result<String, AllocError>
     ensures { IfOk result (λ s. string_bytes s ≡ refusal_record fault) }
 {
-    let Fault {
-        code,
-        channel,
-        depth,
-        first,
-        second,
-    } = fault;
-    format!(in heap; "refused {code} channel {channel} depth {depth} figures {first} {second}")
+    RefusalRecord(fault).to_string(heap)
 }
 
-/// The line of an unfolding with these parts.
-fn parts_line(
-    heap: Global,
-    folds: &[i64],
-    unfolded: &[i64],
-    start: u64,
-    count: u64,
-    mean: u64,
-) -> Result<String, AllocError>
-    ensures { IfOk result (λ s. string_bytes s ≡ parts_line folds.now unfolded.now start count mean) }
-{
-    let folds = Spaced(folds);
-    let unfolded = Spaced(unfolded);
-    format!(in heap; "folds{folds} unfolded{unfolded} start {start} count {count} mean {mean}")
+/// An unfolding as it is printed.
+#[derive(Clone, Copy)]
+pub struct UnfoldingLine<'a>(pub &'a Unfolding);
+
+impl fmt::Display for UnfoldingLine<'_> {
+    ghost output = { λ x. Some (unfolding_line x.0.now) };
+
+    fn fmt<W: fmt::Write>(&self, f: &mut fmt::Formatter<W>) -> fmt::Result {
+        let folds = Spaced(self.0.folds());
+        let unfolded = Spaced(self.0.unfolded());
+        let start = self.0.start();
+        let count = self.0.count();
+        let mean = self.0.mean();
+        write!(
+            f,
+            "folds{folds} unfolded{unfolded} start {start} count {count} mean {mean}"
+        )
+    }
 }
 
 /// An unfolding as a result line.
 pub fn unfolding_line(heap: Global, found: &Unfolding) -> Result<String, AllocError>
     ensures { IfOk result (λ s. string_bytes s ≡ unfolding_line found.now) }
 {
-    parts_line(
-        heap,
-        found.folds(),
-        found.unfolded(),
-        found.start(),
-        found.count(),
-        found.mean(),
-    )
+    UnfoldingLine(found).to_string(heap)
 }
 
 /// What a row comes to, as a result line.
@@ -85,6 +83,6 @@ pub fn row_line(heap: Global, row: Result<Unfolding, UnfoldRefusal>) -> Result<S
 {
     match row {
         Ok(found) => unfolding_line(heap, &found),
-        Err(refusal) => refusal_line(heap, refusal.fault()),
+        Err(refusal) => refusal_line(heap, refusal.into()),
     }
 }

@@ -21,6 +21,7 @@ pub enum BadText {
     NoMemory,
 }
 
+// Two impls, as `?` meets both errors of std, and one for all that become an `AllocError` would cross `From<T> for T`.
 impl From<AllocError> for BadText {
     ghost from_gives = { λ _ r. r ≡ NoMemory };
 

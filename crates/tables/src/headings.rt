@@ -9,9 +9,9 @@ ghost use Rattle.tables.specs.Words.{words};
 use crate::errors::BadText;
 use crate::parts::{Part, part_of};
 use crate::reading::read_numbers;
-use crate::splitting::first_word;
 
 /// Which lines of a table's heading were seen so far.
+// A flag for each of them, not a set of parts: theorems name the flags, and of rows there is none.
 #[derive(Clone, Copy, PartialEq, Eq, Debug)]
 pub struct Heading {
     note: bool,
@@ -48,6 +48,7 @@ impl Heading {
     /// Reads the next line: what it is, with its numbers in place of those in `numbers`.
     /// With bad text, or with no room for the numbers, nothing was seen and `numbers` is empty.
     /// The law says that what is written with single spaces is read back.
+    #[tactic(auto, using(crate::proofs::Back::reads_back))]
     pub fn line(&mut self, text: &[u8], numbers: &mut Vec<u32>) -> Result<Part, BadText>
         ensures law { ReadsBack }
         ensures seen { (past : List (List ℕ)) → self.old ≡ seen_in past → OnOk result (self.new ≡ seen_in (text.now ∷ past)) }
@@ -56,6 +57,7 @@ impl Heading {
         numbers.clear();
         let part = part_of(text);
         self.allow(part)?;
+        // In an `inspect_err` a closure would change `numbers`, and of what is in it then, nothing was proved.
         if let Err(bad) = fill(part, text, numbers) {
             numbers.clear();
             return Err(bad);
@@ -102,13 +104,12 @@ impl Heading {
 fn fill(part: Part, text: &[u8], numbers: &mut Vec<u32>) -> Result<(), BadText>
     ensures { Filled (vec_capacity numbers.old) (words text.now) (numbers_of part (words text.now)) result numbers.new.items }
 {
-    numbers.clear();
     match part {
-        Part::Passed | Part::Note => Ok(()),
-        Part::Row => read_numbers(text, 0, true, numbers),
-        Part::Moduli | Part::Bounds => match first_word(text) {
-            None => Ok(()),
-            Some((_, rest)) => read_numbers(rest, 1, false, numbers),
-        },
+        Part::Passed | Part::Note => {
+            numbers.clear();
+            Ok(())
+        }
+        Part::Moduli | Part::Bounds => read_numbers(part, text, 1, numbers),
+        Part::Row => read_numbers(part, text, 0, numbers),
     }
 }

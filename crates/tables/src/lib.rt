@@ -11,11 +11,13 @@ mod reading;
 mod replies;
 mod splitting;
 
-pub use answers::{refusal_line, refusal_record, row_line, unfolding_line};
+pub use answers::{
+    RefusalRecord, Spaced, UnfoldingLine, refusal_line, refusal_record, row_line, unfolding_line,
+};
 pub use desks::Desk;
 pub use errors::BadText;
 pub use headings::Heading;
 pub use numerals::{NoNumber, number};
 pub use parts::{Part, part_of};
 pub use replies::Reply;
-pub use splitting::first_word;
+pub use splitting::{Words, first_word};

@@ -18,14 +18,11 @@ pub enum Part {
 fn part_of_word(word: &[u8]) -> Part
     ensures { result ≡ part_of_word word.now }
 {
-    if word == b"note".as_slice() {
-        Part::Note
-    } else if word == b"moduli".as_slice() {
-        Part::Moduli
-    } else if word == b"bounds".as_slice() {
-        Part::Bounds
-    } else {
-        Part::Row
+    match word {
+        b"note" => Part::Note,
+        b"moduli" => Part::Moduli,
+        b"bounds" => Part::Bounds,
+        _ => Part::Row,
     }
 }
 

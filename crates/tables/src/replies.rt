@@ -15,6 +15,7 @@ use std::mem;
 use unfolding::{UnfoldRefusal, Unfolding, unfold};
 
 /// What a line comes to: nothing to tell, a refused setting, or what its row unfolds to.
+// Named, since `Option<Result<Result<Unfolding, UnfoldRefusal>, SettingRefusal>>` would tell the two refusals apart by their places.
 #[derive(Clone, Copy)]
 pub enum Reply {
     Nothing,
@@ -26,11 +27,7 @@ pub enum Reply {
 fn made(heading: &Heading, moduli: &[u32]) -> Option<Result<Setting, SettingRefusal>>
     ensures { Ready heading.now moduli.now result }
 {
-    if heading.is_complete() {
-        Some(Setting::from_moduli(moduli))
-    } else {
-        None
-    }
+    heading.is_complete().then(|| Setting::from_moduli(moduli))
 }
 
 /// What a heading line comes to after which the setting is this.
@@ -38,11 +35,8 @@ fn told(setting: Option<Result<Setting, SettingRefusal>>) -> Reply
     ensures { result ≡ told_of setting }
 {
     match setting {
-        None => Reply::Nothing,
-        Some(made) => match made {
-            Ok(_) => Reply::Nothing,
-            Err(refusal) => Reply::Refused(refusal),
-        },
+        Some(Err(refusal)) => Reply::Refused(refusal),
+        Some(Ok(_)) | None => Reply::Nothing,
     }
 }
 
@@ -50,7 +44,8 @@ impl Desk {
     /// Before the first line.
     pub fn new(heap: Global) -> Desk
         ensures heading { result.heading ≡ seen_in [] }
-        ensures lists { (result.moduli.items ≡ []) × (result.bounds.items ≡ []) }
+        ensures moduli { result.moduli.items ≡ [] }
+        ensures bounds { result.bounds.items ≡ [] }
         ensures setting { result.setting ≡ None }
     {
         Desk {
@@ -72,7 +67,7 @@ impl Desk {
             Part::Moduli => mem::swap(&mut self.moduli, &mut self.numbers),
             Part::Bounds => mem::swap(&mut self.bounds, &mut self.numbers),
         }
-        self.setting = made(&self.heading, self.moduli.as_slice());
+        self.setting = made(&self.heading, &self.moduli);
         Ok(told(self.setting))
     }
 
@@ -83,14 +78,8 @@ impl Desk {
     {
         match self.setting {
             None => unreachable(),
-            Some(made) => match made {
-                Ok(setting) => Reply::Row(unfold(
-                    &setting,
-                    self.numbers.as_slice(),
-                    self.bounds.as_slice(),
-                )),
-                Err(refusal) => Reply::Refused(refusal),
-            },
+            Some(Err(refusal)) => Reply::Refused(refusal),
+            Some(Ok(setting)) => Reply::Row(unfold(&setting, &self.numbers, &self.bounds)),
         }
     }
 

@@ -2,19 +2,11 @@
 #![tactic(auto)]
 
 use anyhow::anyhow;
+use programs::{Program, serve};
 use std::alloc::Global;
-use std::env;
 use std::io::{BufRead, BufReader, BufWriter, Write};
 use std::process::ExitCode;
 use tables::{BadText, Desk, Reply, refusal_line, row_line};
-
-const USAGE: &str = "usage: unfold < TABLE
-Reads a table of moduli, bounds and rows, and prints for each row
-  folds 14 10 8 unfolded 439 436 437 start 437 count 2 mean 437
-or why it is refused, as
-  refused 16 channel 0 depth 0
-A refused setting is printed alone. Bad text ends the program with status 1.
-";
 
 /// The report of a line with bad text.
 fn at_line(number: u64, bad: BadText) -> anyhow::Error {
@@ -28,58 +20,54 @@ fn read_table<B: BufRead + Drop, W: Write>(
     out: &mut W,
 ) -> anyhow::Result<()> {
     let mut desk = Desk::new(heap);
+    // Counted by hand, as the number of the line after the last is told, too.
     let mut number: u64 = 1;
     for line in input.split(heap, b'\n') {
-        let reply = match desk.line(line?.as_slice()) {
-            Ok(reply) => reply,
-            Err(bad) => return Err(at_line(number, bad)),
-        };
+        let reply = desk
+            .line(line?.as_slice())
+            .map_err(|bad| at_line(number, bad))?;
         match reply {
             Reply::Nothing => {}
             Reply::Row(row) => writeln!(out, "{}", row_line(heap, row)?)?,
             Reply::Refused(refusal) => {
-                writeln!(out, "{}", refusal_line(heap, refusal.fault())?)?;
+                writeln!(out, "{}", refusal_line(heap, refusal.into())?)?;
                 return Ok(());
             }
         }
         number = number.saturating_add(1);
     }
-    match desk.end() {
-        Ok(()) => Ok(()),
-        Err(bad) => Err(at_line(number, bad)),
-    }
+    desk.end().map_err(|bad| at_line(number, bad))
 }
 
-fn run(rt: &HostRuntime) -> anyhow::Result<()> {
-    let mut args = env::args(rt)?;
-    let _ = args.next();
-    match args.next() {
-        None => {
-            let mut out = BufWriter::new(rt.alloc(), rt.stdout())?;
-            let ended = read_table(
-                rt.alloc(),
-                BufReader::new(rt.alloc(), rt.stdin())?,
-                &mut out,
-            );
-            out.flush()?;
-            ended
-        }
-        Some(arg) if arg.as_str() == "--help" => {
-            rt.print(USAGE)?;
-            Ok(())
-        }
-        Some(_) => Err(anyhow!("unknown argument; --help tells the usage")),
+struct Unfold;
+
+impl Program<HostRuntime> for Unfold {
+    const NAME: &'static str = "unfold";
+
+    const PREFIX: &'static str = "unfold: ";
+
+    const USAGE: &'static str = "usage: unfold < TABLE
+Reads a table of moduli, bounds and rows, and prints for each row
+  folds 14 10 8 unfolded 439 436 437 start 437 count 2 mean 437
+or why it is refused, as
+  refused 16 channel 0 depth 0
+A refused setting is printed alone. Bad text ends the program with status 1.
+";
+
+    fn job(rt: &HostRuntime) -> anyhow::Result<()> {
+        let mut out = BufWriter::new(rt.alloc(), rt.stdout())?;
+        let ended = read_table(
+            rt.alloc(),
+            BufReader::new(rt.alloc(), rt.stdin())?,
+            &mut out,
+        );
+        out.flush()?;
+        ended
     }
 }
 
 fn main(rt: HostRuntime) -> ExitCode {
-    match run(&rt) {
-        Ok(()) => ExitCode::SUCCESS,
-        Err(e) => {
-            let _ = eprintln!(rt; "unfold: {e}");
-            ExitCode::FAILURE
-        }
-    }
+    serve::<Unfold, _>(&rt)
 }
 
 #[cfg(test)]

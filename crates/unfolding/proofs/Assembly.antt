@@ -1,6 +1,6 @@
 -- From the code's numbers to what is promised of an unfolding.
-use Rattle.std.proofs.Common.{◌≡◌, ℕ, zero, suc, ◌*◌, ◌^◌, ◌<◌, ◌≤◌, List, length, get_or, take, ℤ, pos, ◌+ℤ◌, ◌-ℤ◌, ◌*ℤ◌, neg_ℤ, ◌≤ℤ◌, ◌<ℤ◌, sym, refl, ap, ◌∙◌, subst, arith, length-take, get_or-take}
-use Rattle.std.proofs.lemmas.List.FromFn.{fill_by_all}
+use Rattle.std.proofs.Common.{◌≡◌, ℕ, zero, suc, ◌*◌, ◌<◌, List, length, get_or, ℤ, pos, ◌+ℤ◌, ◌-ℤ◌, ◌*ℤ◌, ◌≤ℤ◌, ◌<ℤ◌, sym, refl, ap, ◌∙◌, subst, arith}
+use Rattle.std.proofs.lemmas.List.FromFn.{length-map-range_with_len, get_or-map-range_with_len}
 use Rattle.std.specs.Int.{int_div_euclid}
 use Rattle.residues.specs.Circle.{◌modulo◌}
 use Rattle.settings.specs.Settings.{Accepted, modulus_at, range_of}
@@ -11,7 +11,7 @@ use Rattle.unfolding.specs.declared.refusals.UnfoldRefusal.TheVariants.{Readings
 use Rattle.unfolding.specs.Told.{quotients_of, folds_of, unfolded_of}
 use Rattle.unfolding.specs.Channels.{by_channel, total, GreatestAt, LeastAt, Moderate}
 use Rattle.unfolding.specs.Ends.{begins_at, ends_at, Crossed}
-use Rattle.unfolding.specs.Folds.{fold_at, unfolded_at, quotient_at, FoldsWell}
+use Rattle.unfolding.specs.Folds.{unfolded_at, FoldsWell}
 use Rattle.unfolding.specs.Folded.{Folded}
 use Rattle.unfolding.specs.Brackets.{Allowed, Exact, MeanNear, low_at, high_at, rounded_mean}
 use Rattle.unfolding.specs.Refusals.{AllFine, UnfoldRefused}
@@ -42,11 +42,6 @@ pub total_same : (n : ℕ) (f g : ℕ → ℤ) → ((i : ℕ) → i < n → f i 
 total_same zero f g e = refl
 total_same (suc n) f g e = ap (λ z. z +ℤ f n) (total_same n f g (λ i h. e i (omega arith))) ∙ ap (λ z. total n g +ℤ z) (e n (omega arith))
 
--- the front of an array, channel by channel
-pub front_is : (f : ℕ → ℤ) (xs : List ℤ) (n k : ℕ) → n ≡ k → length xs ≡ 8 → k ≤ 8 → ((i : ℕ) → i < k → get_or xs i (pos 0) ≡ f i) → take n xs ≡ by_channel k f
-front_is f xs n k e l h is =
-    fill_by_all f (take n xs) k (pos 0) (omega (arith, length-take n xs)) (λ i m. get_or-take n xs i (pos 0) (omega arith) ∙ is i m)
-
 module _ (u : ℕ) (gs rs ts : List ℕ) (a : Accepted u gs) (fine : AllFine u gs rs ts) (f : Folding) (d : Folded u gs rs f) where
   pub tame : (k : ℕ) → k < length gs → get_or rs k 0 < modulus_at u gs k
   tame k h = (fine.fine k h).tame
@@ -54,23 +49,21 @@ module _ (u : ℕ) (gs rs ts : List ℕ) (a : Accepted u gs) (fine : AllFine u g
   pub well : FoldsWell u gs rs d.first_folds
   well = folds_well u gs rs (apart u gs a) d.first_folds d.turns tame
 
-  module _ (cs : List ℤ) (cut : cs ≡ unfolded_of f) (places : length f.unfolded ≡ 8) where
+  module _ (cs : List ℤ) (cut : cs ≡ unfolded_of f) where
+    is : cs ≡ by_channel (length gs) (unfolded_at u gs rs d.first_folds)
+    is = cut ∙ d.unfolded_are
+
     pub counted : length cs ≡ length gs
-    counted = omega (arith, ap length cut, length-take f.count f.unfolded, d.counted, a.counted.1)
+    counted = ap length is ∙ length-map-range_with_len (unfolded_at u gs rs d.first_folds) 0 (length gs)
 
     pub paired : length ts ≡ length cs
     paired = fine.paired.bounds_paired ∙ sym counted
 
-    at : (k : ℕ) → k < length gs → get_or cs k (pos 0) ≡ get_or f.unfolded k (pos 0)
-    at k h = ap (λ xs. get_or xs k (pos 0)) cut ∙ get_or-take f.count f.unfolded k (pos 0) (omega (arith, d.counted))
-
     pub reading_is : (k : ℕ) → k < length gs → get_or cs k (pos 0) ≡ unfolded_at u gs rs d.first_folds k
-    reading_is k h = at k h ∙ d.unfolded_are k h
+    reading_is k h = ap (λ xs. get_or xs k (pos 0)) is ∙ get_or-map-range_with_len (unfolded_at u gs rs d.first_folds) 0 (length gs) k k (pos 0) h (omega arith)
 
     pub moderate : Moderate cs
-    moderate k h =
-        let l : k < length gs = subst (λ n. k < n) counted h in
-        subst (λ z. (neg_ℤ (pos (2 ^ 42)) ≤ℤ z) × (z ≤ℤ pos (2 ^ 42))) (sym (at k l)) (d.moderate k l)
+    moderate = subst Moderate (sym cut) d.moderate
 
     lo_at : (x : ℤ) (k : ℕ) → GreatestAt (length cs) (begins_at cs ts) x k → GreatestAt (length gs) (low_at u gs rs ts d.first_folds) x k
     lo_at x k g = greatest_same (length gs) (begins_at cs ts) (low_at u gs rs ts d.first_folds) x k (λ i h. ap (λ z. z -ℤ pos (get_or ts i 0)) (reading_is i h))
@@ -106,12 +99,12 @@ module _ (u : ℕ) (gs rs ts : List ℕ) (a : Accepted u gs) (fine : AllFine u g
     contradicted lo hi over (WideBound k y m) x = absurd x
     contradicted lo hi over (Wild k r m) x = absurd x
 
-    pub unfolds : (w : Unfolding) → w.folding ≡ f → length f.quotients ≡ 8 → length f.folds ≡ 8
+    pub unfolds : (w : Unfolding) → w.folding ≡ f
         → ((k : ℕ) × GreatestAt (length cs) (begins_at cs ts) w.ends.0 k) → ((k : ℕ) × LeastAt (length cs) (ends_at cs ts) w.ends.1 k) → w.ends.0 ≤ℤ w.ends.1
         → w.start ≡ w.ends.0 modulo range_of u gs → pos w.count ≡ w.ends.1 -ℤ w.ends.0 +ℤ pos 1
         → w.mean ≡ int_div_euclid (pos 2 *ℤ total (length cs) (λ k. get_or cs k (pos 0)) +ℤ pos (length cs)) (pos (2 * length cs)) modulo range_of u gs
         → Unfolds u gs rs ts w
-    unfolds w same q-places f-places (k, lo) (l, hi) order start count mean =
+    unfolds w same (k, lo) (l, hi) order start count mean =
         let n = d.first_folds in
         let g = lo_at w.ends.0 k lo in
         let h = hi_at w.ends.1 l hi in
@@ -120,10 +113,10 @@ module _ (u : ℕ) (gs rs ts : List ℕ) (a : Accepted u gs) (fine : AllFine u g
         record {
           checked = fine;
           n = n;
-          quotients_are = ap quotients_of same ∙ front_is (quotient_at u rs) f.quotients f.count (length gs) d.counted q-places a.counted.1 d.quotients_are;
+          quotients_are = ap quotients_of same ∙ d.quotients_are;
           folds_well = well;
-          folds_are = ap folds_of same ∙ front_is (fold_at u gs rs n) f.folds f.count (length gs) d.counted f-places a.counted.1 d.folds_are;
-          unfolded_are = ap unfolded_of same ∙ front_is (unfolded_at u gs rs n) f.unfolded f.count (length gs) d.counted places a.counted.1 d.unfolded_are;
+          folds_are = ap folds_of same ∙ d.folds_are;
+          unfolded_are = ap unfolded_of same ∙ d.unfolded_are;
           robust = robust u gs rs (apart u gs a) n d.turns;
           lo_channel = k;
           lo_is = g;

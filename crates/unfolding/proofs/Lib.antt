@@ -1,5 +1,6 @@
 pub mod Filled
 pub mod Peeling
+pub mod Rows
 pub mod Agreed
 pub mod Turning
 pub mod Fitting

@@ -1,6 +1,5 @@
 -- Digits peeled off one at a time, and the number that they make.
-use Rattle.std.proofs.Common.{◌≡◌, ℕ, zero, suc, ◌+◌, ◌-◌, ◌*◌, ◌%◌, ◌<◌, ◌≤◌, List, [], ◌∷◌, length, get_or, take, drop, ℤ, pos, ◌+ℤ◌, ◌-ℤ◌, ◌*ℤ◌, ap, ◌∙◌, mod-lt, add-one, arith}
-use Rattle.std.proofs.lemmas.List.{drop_more, drop_all}
+use Rattle.std.proofs.Common.{◌≡◌, ℕ, zero, suc, ◌+◌, ◌-◌, ◌*◌, ◌%◌, ◌<◌, List, [], ◌∷◌, ◌++◌, length, get_or, take, ℤ, pos, ◌+ℤ◌, ◌-ℤ◌, ◌*ℤ◌, ap, ◌∙◌, mod-lt, arith}
 use Rattle.residues.specs.Products.{product}
 use Rattle.residues.proofs.Ring.{ring, lin}
 use Rattle.residues.proofs.Congruence.{Same, same_trans, same_sym, same_mod}
@@ -9,13 +8,6 @@ use Rattle.unfolding.specs.Digits.{peeled, mixed}
 -- one digit less
 abbrev pub peel : (g x d i : ℕ) → ℕ
 peel g x d i = (x + (g - d % g)) % g * i % g
-
-pub peeled_more : (g x j : ℕ) (is ds : List ℕ) → j < length is → j < length ds
-    → peeled g x (drop j is) (drop j ds) ≡ peeled g (peel g x (get_or ds j 0) (get_or is j 0)) (drop (j + 1) is) (drop (j + 1) ds)
-peeled_more g x j is ds h l = ap (λ ys. peeled g x ys (drop j ds)) (drop_more is j 0 h) ∙ ap (peeled g x (get_or is j 0 ∷ drop (j + 1) is)) (drop_more ds j 0 l)
-
-pub peeled_all : (g x j : ℕ) (is ds : List ℕ) → length is ≤ j → peeled g x (drop j is) (drop j ds) ≡ x
-peeled_all g x j is ds h = ap (λ ys. peeled g x ys (drop j ds)) (drop_all j is h)
 
 -- with h times i one modulo g, h times what is left, and the digit, is x again
 less_is : (g d x : ℕ) → 0 < g → Same (pos g) (pos ((x + (g - d % g)) % g)) (pos x -ℤ pos d)
@@ -61,11 +53,9 @@ peeled_back g (h ∷ gs) (i ∷ is) (d ∷ ds) x p e f inv =
     (k, ap pos (omega arith) ∙ r)
 
 -- one digit more at the top
-pub mixed_more : (gs ds : List ℕ) (k : ℕ) → k < length gs → k < length ds → mixed (take (k + 1) gs) (take (k + 1) ds) ≡ mixed (take k gs) (take k ds) + product (take k gs) * get_or ds k 0
-mixed_more gs ds k h l = rw add-one (go gs ds k h l)
-  where
-    go : (gs ds : List ℕ) (k : ℕ) → k < length gs → k < length ds → mixed (take (suc k) gs) (take (suc k) ds) ≡ mixed (take k gs) (take k ds) + product (take k gs) * get_or ds k 0
-    go [] ds k h l = absurd (omega arith)
-    go (g ∷ gs) [] k h l = absurd (omega arith)
-    go (g ∷ gs) (d ∷ ds) zero h l = omega arith
-    go (g ∷ gs) (d ∷ ds) (suc k) h l = omega (arith, ap (λ (z : ℕ). g * z) (go gs ds k (omega arith) (omega arith)))
+pub mixed_more : (gs ds : List ℕ) (d k : ℕ) → length ds ≡ k → k < length gs → mixed (take (suc k) gs) (ds ++ d ∷ []) ≡ mixed (take k gs) ds + product (take k gs) * d
+mixed_more [] ds d k e h = absurd (omega arith)
+mixed_more (g ∷ gs) [] d zero e h = omega arith
+mixed_more (g ∷ gs) [] d (suc k) e h = absurd (omega arith)
+mixed_more (g ∷ gs) (x ∷ ds) d zero e h = absurd (omega arith)
+mixed_more (g ∷ gs) (x ∷ ds) d (suc k) e h = omega (arith, ap (λ (z : ℕ). g * z) (mixed_more gs ds d k (omega arith) (omega arith)))

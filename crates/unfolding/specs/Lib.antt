@@ -1,6 +1,7 @@
 pub mod Channels
 pub mod Digits
 pub mod Ends
+pub mod Few
 pub mod Folds
 pub mod Folded
 pub mod Robust

@@ -30,18 +30,16 @@ pub(crate) fn check(
         });
     }
     let unit = setting.unit();
-    let moduli = setting.moduli();
-    for channel in 0..channels {
-        let quadruple = 4 * bounds[channel] as u64;
-        if quadruple >= unit as u64 {
+    let rows = bounds.iter().zip(readings).zip(setting.moduli());
+    for (channel, ((&bound, &reading), &modulus)) in rows.enumerate() {
+        let quadruple = 4 * u64::from(bound);
+        if quadruple >= u64::from(unit) {
             return Err(UnfoldRefusal::WideBound {
                 channel,
                 quadruple,
                 unit,
             });
         }
-        let reading = readings[channel];
-        let modulus = moduli[channel];
         if reading >= modulus {
             return Err(UnfoldRefusal::Wild {
                 channel,

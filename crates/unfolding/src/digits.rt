@@ -1,15 +1,19 @@
 // Mixed radix digits: the one number of units that agrees with every quotient.
-ghost use Rattle.std.specs.Prelude.{◌≡◌, ℕ, ◌+◌, ◌-◌, ◌*◌, ◌%◌, ◌<◌, ◌≤◌, length};
+ghost use Rattle.std.specs.Prelude.{◌≡◌, ◌+◌, ◌-◌, ◌*◌, ◌%◌, ◌<◌, ◌≤◌, length};
 ghost use Rattle.settings.specs.Told.{factors_of};
 ghost use Rattle.unfolding.specs.Digits.{Agreeing, Below, peeled};
 
+use crate::few::Few;
 use settings::Setting;
 
 // A residue less one digit, divided by that digit's factor, whose inverse it is
 // multiplied by; all modulo `factor`.
 fn less_digit(left: u32, digit: u32, inverse: u32, factor: u32) -> u32
-    requires { (left < factor) × ((inverse < factor) × (factor ≤ 32768)) }
-    ensures { (result < factor) × (result ≡ (left + (factor - digit % factor)) % factor * inverse % factor) }
+    requires left_below { left < factor }
+    requires inverse_below { inverse < factor }
+    requires factor_fits { factor ≤ 32768 }
+    ensures below { result < factor }
+    ensures is { result ≡ (left + (factor - digit % factor)) % factor * inverse % factor }
 {
     (left + (factor - digit % factor)) % factor * inverse % factor
 }
@@ -17,12 +21,16 @@ fn less_digit(left: u32, digit: u32, inverse: u32, factor: u32) -> u32
 // What is left of a residue once each earlier digit is taken away and the rest
 // divided by that digit's factor, all modulo `factor`: the next digit.
 fn next_digit(residue: u32, factor: u32, inverses: &[u32], digits: &[u32]) -> u32
-    requires { (residue < factor) × ((factor ≤ 32768) × ((length digits.now ≡ length inverses.now) × (Below factor inverses.now))) }
-    ensures { (result < factor) × (result ≡ peeled factor residue inverses.now digits.now) }
+    requires residue_below { residue < factor }
+    requires factor_fits { factor ≤ 32768 }
+    requires paired { length digits.now ≡ length inverses.now }
+    requires inverses_below { Below factor inverses.now }
+    ensures below { result < factor }
+    ensures is { result ≡ peeled factor residue inverses.now digits.now }
 {
     let mut left = residue;
-    for j in 0..digits.len() {
-        left = less_digit(left, digits[j], inverses[j], factor);
+    for (&digit, &inverse) in digits.iter().zip(inverses) {
+        left = less_digit(left, digit, inverse, factor);
     }
     left
 }
@@ -35,17 +43,15 @@ pub(crate) fn agreeing_units(setting: &Setting, quotients: &[i64]) -> u64
     ensures { Agreeing (factors_of setting.now) quotients.now result }
 {
     let factors = setting.factors();
-    let mut digits = [0; 8];
+    let mut digits = Few::new();
     let mut units = 0;
     let mut weight = 1;
-    for k in 0..factors.len() {
-        let factor = factors[k];
-        let residue = quotients[k].rem_euclid(factor as i64) as u32;
-        let inverses = setting.inverses(k);
-        let digit = next_digit(residue, factor, inverses, &digits[0..k]);
-        digits[k] = digit;
-        units += weight * digit as u64;
-        weight *= factor as u64;
+    for (k, (&factor, &quotient)) in factors.iter().zip(quotients).enumerate() {
+        let residue = quotient.rem_euclid(i64::from(factor)) as u32;
+        let digit = next_digit(residue, factor, setting.inverses(k), digits.as_slice());
+        digits.push(digit);
+        units += weight * u64::from(digit);
+        weight *= u64::from(factor);
     }
     units
 }

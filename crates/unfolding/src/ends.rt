@@ -1,74 +1,75 @@
 // The ends of a bracket before reduction, and the channels that give them.
-ghost use Rattle.std.specs.Prelude.{◌≡◌, ℕ, ◌^◌, ◌<◌, ◌≤◌, length, ℤ, pos, ◌+ℤ◌, ◌-ℤ◌, neg_ℤ, ◌≤ℤ◌};
+ghost use Rattle.std.specs.Prelude.{◌≡◌, ◌≤◌, length, pos, ◌+ℤ◌, ◌-ℤ◌, ◌≤ℤ◌};
 ghost use Rattle.unfolding.specs.Channels.{GreatestAt, LeastAt, Moderate, Small};
 ghost use Rattle.unfolding.specs.Ends.{begins_at, ends_at};
 
-use crate::numbers::{greater, lesser};
-
-// The lowest number that a reading allows where it is unfolded.
-fn begins(unfolded: i64, bound: u32) -> i64
-    requires { (neg_ℤ (pos (2 ^ 42)) ≤ℤ unfolded) × (unfolded ≤ℤ pos (2 ^ 42)) }
-    ensures { result ≡ unfolded -ℤ pos bound }
-{
-    unfolded - bound as i64
-}
-
-// The highest one.
-fn reaches(unfolded: i64, bound: u32) -> i64
-    requires { (neg_ℤ (pos (2 ^ 42)) ≤ℤ unfolded) × (unfolded ≤ℤ pos (2 ^ 42)) }
-    ensures { result ≡ unfolded +ℤ pos bound }
-{
-    unfolded + bound as i64
+/// An end, and the lowest channel that gives it.
+#[derive(Clone, Copy)]
+pub(crate) struct End {
+    pub(crate) at: i64,
+    pub(crate) channel: usize,
 }
 
 /// The greatest lower end and the least upper end: `lo` and `hi`.
-pub(crate) fn ends(unfolded: &[i64], bounds: &[u32]) -> (i64, i64)
-    requires { (1 ≤ length unfolded.now) × ((length bounds.now ≡ length unfolded.now) × (Moderate unfolded.now)) }
-    ensures lo { (k : ℕ) × GreatestAt (length unfolded.now) (begins_at unfolded.now bounds.now) result.0 k }
-    ensures hi { (k : ℕ) × LeastAt (length unfolded.now) (ends_at unfolded.now bounds.now) result.1 k }
-    ensures small { (Small result.0) × (Small result.1) }
-{
-    let mut lo = begins(unfolded[0], bounds[0]);
-    let mut hi = reaches(unfolded[0], bounds[0]);
-    for k in 1..unfolded.len() {
-        lo = greater(lo, begins(unfolded[k], bounds[k]));
-        hi = lesser(hi, reaches(unfolded[k], bounds[k]));
-    }
-    (lo, hi)
+#[derive(Clone, Copy)]
+pub(crate) struct Ends {
+    pub(crate) lo: End,
+    pub(crate) hi: End,
+    ghost lo_small: { Small lo.at },
+    ghost hi_small: { Small hi.at },
 }
 
-/// The lowest channel that begins at `lo`.
-pub(crate) fn channel_of_lo(unfolded: &[i64], bounds: &[u32], lo: i64) -> usize
-    requires shapes { (length bounds.now ≡ length unfolded.now) × (Moderate unfolded.now) }
-    requires greatest { (k : ℕ) × GreatestAt (length unfolded.now) (begins_at unfolded.now bounds.now) lo k }
-    ensures { GreatestAt (length unfolded.now) (begins_at unfolded.now bounds.now) lo result }
-{
-    for k in 0..unfolded.len() {
-        if begins(unfolded[k], bounds[k]) == lo {
-            return k;
+impl Ends {
+    /// The ends of what unfolded readings allow, each within its bound.
+    pub(crate) fn of(unfolded: &[i64], bounds: &[u32]) -> Ends
+        requires some { 1 ≤ length unfolded.now }
+        requires paired { length bounds.now ≡ length unfolded.now }
+        requires moderate { Moderate unfolded.now }
+        ensures lo { GreatestAt (length unfolded.now) (begins_at unfolded.now bounds.now) result.lo.at result.lo.channel }
+        ensures hi { LeastAt (length unfolded.now) (ends_at unfolded.now bounds.now) result.hi.at result.hi.channel }
+    {
+        let first = unfolded[0];
+        let bound = i64::from(bounds[0]);
+        let mut lo = End {
+            at: first - bound,
+            channel: 0,
+        };
+        let mut hi = End {
+            at: first + bound,
+            channel: 0,
+        };
+        for (channel, (&reading, &bound)) in unfolded.iter().zip(bounds).enumerate().skip(1) {
+            let begins = reading - i64::from(bound);
+            let reaches = reading + i64::from(bound);
+            if begins > lo.at {
+                lo = End {
+                    at: begins,
+                    channel,
+                };
+            }
+            if reaches < hi.at {
+                hi = End {
+                    at: reaches,
+                    channel,
+                };
+            }
         }
+        Ends { lo, hi }
     }
-    unreachable()
-}
 
-/// The lowest channel that reaches to `hi`.
-pub(crate) fn channel_of_hi(unfolded: &[i64], bounds: &[u32], hi: i64) -> usize
-    requires shapes { (length bounds.now ≡ length unfolded.now) × (Moderate unfolded.now) }
-    requires least { (k : ℕ) × LeastAt (length unfolded.now) (ends_at unfolded.now bounds.now) hi k }
-    ensures { LeastAt (length unfolded.now) (ends_at unfolded.now bounds.now) hi result }
-{
-    for k in 0..unfolded.len() {
-        if reaches(unfolded[k], bounds[k]) == hi {
-            return k;
-        }
+    /// How many whole numbers there are from `lo` to `hi`.
+    pub(crate) fn count(&self) -> u64
+        requires { self.now.lo.at ≤ℤ self.now.hi.at }
+        ensures { pos result ≡ self.now.hi.at -ℤ self.now.lo.at +ℤ pos 1 }
+    {
+        (self.hi.at - self.lo.at) as u64 + 1
     }
-    unreachable()
-}
 
-/// How far it is from one number up to another.
-pub(crate) fn span(from: i64, to: i64) -> u64
-    requires { (Small from) × ((Small to) × (from ≤ℤ to)) }
-    ensures { pos result ≡ to -ℤ from }
-{
-    (to - from) as u64
+    /// By how much `lo` exceeds `hi`.
+    pub(crate) fn excess(&self) -> u64
+        requires { self.now.hi.at ≤ℤ self.now.lo.at }
+        ensures { pos result ≡ self.now.lo.at -ℤ self.now.hi.at }
+    {
+        (self.lo.at - self.hi.at) as u64
+    }
 }

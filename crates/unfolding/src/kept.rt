@@ -1,14 +1,12 @@
 // What an unfolding keeps.
-ghost use Rattle.std.specs.Prelude.{◌≤◌};
+use crate::few::Few;
 
 /// For each channel its quotient, its folding number and its unfolded reading.
 #[derive(Clone, Copy)]
 pub struct Folding {
-    pub(crate) count: usize,
-    pub(crate) quotients: [i64; 8],
-    pub(crate) folds: [i64; 8],
-    pub(crate) unfolded: [i64; 8],
-    ghost few: { count ≤ 8 },
+    pub(crate) quotients: Few<i64>,
+    pub(crate) folds: Few<i64>,
+    pub(crate) unfolded: Few<i64>,
 }
 
 /// An unfolding: the folding, the two ends before reduction, the bracket of

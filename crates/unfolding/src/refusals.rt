@@ -37,12 +37,12 @@ pub enum UnfoldRefusal {
     },
 }
 
-impl UnfoldRefusal {
-    /// The refusal as a record.
-    pub fn fault(self) -> Fault
-        ensures { result ≡ unfold_fault self }
-    {
-        let (code, channel, first, second) = match self {
+/// The refusal as a record.
+impl From<UnfoldRefusal> for Fault {
+    ghost from_gives = { λ e f. f ≡ unfold_fault e };
+
+    fn from(refusal: UnfoldRefusal) -> Fault {
+        let (code, channel, first, second) = match refusal {
             UnfoldRefusal::Readings { count, channels } => (13, 0, count as u64, channels as u64),
             UnfoldRefusal::Bounds { count, channels } => (13, 0, count as u64, channels as u64),
             UnfoldRefusal::WideBound {
@@ -60,9 +60,9 @@ impl UnfoldRefusal {
         Fault {
             code,
             channel,
-            depth: 0,
             first,
             second,
+            ..Fault::default()
         }
     }
 }

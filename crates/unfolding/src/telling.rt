@@ -3,37 +3,27 @@ ghost use Rattle.std.specs.Prelude.{◌≡◌};
 ghost use Rattle.unfolding.specs.Told.{folds_of, quotients_of, unfolded_of};
 
 use crate::Unfolding;
-use crate::kept::Folding;
-
-impl Folding {
-    /// Each reading with its folds put back.
-    pub(crate) fn unfolded(&self) -> &[i64]
-        ensures { result.now ≡ unfolded_of self.now }
-    {
-        &self.unfolded[0..self.count]
-    }
-}
 
 impl Unfolding {
     /// The quotient of each channel, rounded towards minus infinity; channel 0's is 0.
     pub fn quotients(&self) -> &[i64]
         ensures { result.now ≡ quotients_of self.now.folding }
     {
-        &self.folding.quotients[0..self.folding.count]
+        self.folding.quotients.as_slice()
     }
 
     /// How often each channel has folded; it may be -1.
     pub fn folds(&self) -> &[i64]
         ensures { result.now ≡ folds_of self.now.folding }
     {
-        &self.folding.folds[0..self.folding.count]
+        self.folding.folds.as_slice()
     }
 
     /// Each reading with its folds put back.
     pub fn unfolded(&self) -> &[i64]
         ensures { result.now ≡ unfolded_of self.now.folding }
     {
-        &self.folding.unfolded[0..self.folding.count]
+        self.folding.unfolded.as_slice()
     }
 
     /// The ends of the bracket before reduction, `lo` and `hi`.

@@ -1,32 +1,13 @@
-use Rattle.std.proofs.Common.{true, false, ap, ◌∙◌, arith}
-use Rattle.std.proofs.lemmas.List.{take_all}
-use Rattle.records.specs.Middles.{smaller, greater}
-use Rattle.records.proofs.Counts.{count_more}
+use Rattle.std.proofs.Common.{Less, Equal, Greater, arith}
+use Rattle.records.proofs.Counts.{one_more}
 use Rattle.records.proofs.middles.standing.Goals as goal
 use Rattle.records.proofs.middles.standing.Goals.{in-Less, in-Equal, in-Greater}
 
 pub loop-y-preserved : goal.loop-y-preserved
 loop-y-preserved g c =
-    let y = c.y-item.result in
-    let x = c.args.x.now in
-    let s = count_more (λ v. g.O.Order.lesser v x) c.args.items.now c.loop-y.y-index y c.loop-y-test.true c.y-item.is in
-    let t = count_more (λ v. g.O.Order.lesser x v) c.args.items.now c.loop-y.y-index y c.loop-y-test.true c.y-item.is in
+    let more = one_more g.O.Order.lesser g.met.O.Order.laws c.args.items.now c.loop-y.y-index c.y-item.result c.args.x.now c.loop-y-test.true c.y-item.is in
     elim c.match-compared.branch [
-      | in-Less w ↦
-          let a = s true w.in-Less.ensures in
-          let b = t false (g.O.Order.laws.one_way y x w.in-Less.ensures) in
-          (omega (arith, w.below-is), omega (arith, w.above-is), omega (arith, w.below-is, a), omega (arith, w.above-is, b))
-      | in-Equal w ↦
-          let a = s false w.in-Equal.ensures.0 in
-          let b = t false w.in-Equal.ensures.1 in
-          (omega (arith, w.below-is), omega (arith, w.above-is), omega (arith, w.below-is, a), omega (arith, w.above-is, b))
-      | in-Greater w ↦
-          let a = s false (g.O.Order.laws.one_way x y w.in-Greater.ensures) in
-          let b = t true w.in-Greater.ensures in
-          (omega (arith, w.below-is), omega (arith, w.above-is), omega (arith, w.below-is, a), omega (arith, w.above-is, b))
+      | in-Less w ↦ let m = more Less w.in-Less.ensures in record { few_below = omega arith; few_above = omega arith; below = omega arith; above = omega arith }
+      | in-Equal w ↦ let m = more Equal w.in-Equal.ensures in record { few_below = omega arith; few_above = omega arith; below = omega arith; above = omega arith }
+      | in-Greater w ↦ let m = more Greater w.in-Greater.ensures in record { few_below = omega arith; few_above = omega arith; below = omega arith; above = omega arith }
     ]
-
-pub returns : goal.returns
-returns g c =
-    let e = take_all c.loop-y.y-index c.args.items.now c.loop-y-test.false in
-    record { below = c.loop-y.invariant.2 ∙ ap (λ l. smaller g.O.Order.lesser l c.args.x.now) e; above = c.loop-y.invariant.3 ∙ ap (λ l. greater g.O.Order.lesser l c.args.x.now) e }

@@ -18,9 +18,9 @@ shorter a b t Q (to, from) = (λ x. to (pick (dec_le a t) (leb→le (min a b) t 
 
 pub returns : goal.returns
 returns c =
-    let o = remainder_is c.args.modulus c.args.position c.rem_euclid-on_circle.result (omega arith) c.ranges.position (search rules) c.rem_euclid-on_circle.ensures.value in
+    let o = remainder_is c.args.modulus c.args.position c.rem_euclid-on_circle.result (omega arith) c.ranges.position (search rules) (rw c.from.ensures at c.rem_euclid-on_circle.ensures.value) in
     record {
-      distance = λ h. rw c.shorter_way.ensures (shorter _ _ _ _ (way_ahead _ _ _ _ _ h o));
+      distance = λ h. rw (c.shorter_way.ensures, c.from-length.ensures, c.from-2.ensures, c.from-3.ensures) (shorter _ _ _ _ (way_ahead _ _ _ _ _ h o));
       errors = allows_errs _ _ _ _;
       nowhere = λ e. absurd (omega arith);
     }

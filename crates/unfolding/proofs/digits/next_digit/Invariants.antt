@@ -1,6 +1,9 @@
-use Rattle.std.proofs.Common.{◌≡◌, ◌<◌, drop}
+use Rattle.std.proofs.Common.{◌≡◌, ◌<◌, drop, length}
 use Rattle.unfolding.specs.Digits.{peeled}
 use Rattle.unfolding.proofs.digits.next_digit.Given as goal
 
-abbrev pub invariant-loop-j : goal.invariant-loop-j
-invariant-loop-j l = (l.left < l.factor) × (peeled l.factor l.left (drop l.j l.inverses) (drop l.j l.digits) ≡ peeled l.factor l.residue l.inverses l.digits)
+abbrev pub invariant-loop-digit : goal.invariant-loop-digit
+invariant-loop-digit l = record {
+  below : l.left < l.factor;
+  peels : peeled l.factor l.left (drop (length l.yielded) l.inverses) (drop (length l.yielded) l.digits) ≡ peeled l.factor l.residue l.inverses l.digits;
+}

@@ -1,6 +1,8 @@
-use Rattle.std.proofs.Common.{◌≡◌, ℕ, ◌<◌, length, get_or, pos}
+use Rattle.std.proofs.Common.{◌≡◌}
+use Rattle.unfolding.specs.Channels.{by_channel}
+use Rattle.unfolding.specs.Few.{items}
 use Rattle.unfolding.specs.Folds.{quotient_at}
 use Rattle.unfolding.proofs.quotients.quotients.Given as goal
 
-abbrev pub invariant-loop-k : goal.invariant-loop-k
-invariant-loop-k l = (length l.rounded ≡ 8) × ((i : ℕ) → i < l.k → get_or l.rounded i (pos 0) ≡ quotient_at l.unit l.readings i)
+abbrev pub invariant-loop-reading : goal.invariant-loop-reading
+invariant-loop-reading l = items l.rounded ≡ by_channel l.reading-index (quotient_at l.unit l.readings)

@@ -5,4 +5,4 @@ use Rattle.banks.proofs.joined_banks.Joined.place.Goals as goal
 pub returns : goal.returns
 returns g c =
     let s = c.args.self.now in
-    placed (g.A.Bank.channels s.first) (g.B.Bank.channels s.second) c.args.channel c.place_by_counts.result (search rules)
+    placed (g.A.Bank.channels s.first) (g.B.Bank.channels s.second) c.args.channel c.own_number.result (search rules)

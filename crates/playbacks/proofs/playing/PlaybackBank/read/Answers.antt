@@ -1,28 +1,15 @@
-use Rattle.std.proofs.Common.{◌<◌, sym, arith, rules}
-use Rattle.playbacks.proofs.Played.{few_there, known_none, known_there}
+use Rattle.std.proofs.Common.{Ok, rules}
+use Rattle.playbacks.specs.Columns.{Found}
+use Rattle.playbacks.specs.Playing.{playback_channels}
+use Rattle.playbacks.proofs.Played.{reads_none, reads_column}
 use Rattle.playbacks.proofs.playing.PlaybackBank.read.Goals as goal
 
-below : (c : goal.In-Some-entry_of) → c.args.channel < 8
-below c = (few_there c.in-Some.recording c.args.channel c.in-Some-entry_of.entry (sym c.in-Some-entry_of.ensures)).1
-
-pub returns-in_default-entry_of : goal.returns-in_default-entry_of
-returns-in_default-entry_of c = let s = c.args.self.now in known_none s.recording c.in-Some.recording c.in-Some.is s.rows c.args.channel c.in_default-entry_of.ensures
-
-pub offset_bounds-self-channel : goal.offset_bounds-self-channel
-offset_bounds-self-channel c = let b = below c in omega arith
-
-pub bounds-self-channel : goal.bounds-self-channel
-bounds-self-channel c = below c
-
-pub read_row-answer-requires : goal.read_row-answer-requires
-read_row-answer-requires c = (few_there c.in-Some.recording c.args.channel c.in-Some-entry_of.entry (sym c.in-Some-entry_of.ensures)).0
-
-pub set_row-requires : goal.set_row-requires
-set_row-requires c = let b = (few_there c.in-Some.recording c.args.channel c.in-Some-entry_of.entry (sym c.in-Some-entry_of.ensures)).1 in search rules
+pub returns-in_err-column : goal.returns-in_err-column
+returns-in_err-column c = let s = c.args.self.now in reads_none (playback_channels s.recording s.rows) c.args.channel _ (search rules) (search rules)
 
 pub returns : goal.returns
 returns c =
     let s = c.args.self.now in
-    let b = (few_there c.in-Some.recording c.args.channel c.in-Some-entry_of.entry (sym c.in-Some-entry_of.ensures)).1 in
-    known_there s.recording c.in-Some.recording c.in-Some.is s.rows c.args.channel c.in-Some-entry_of.entry c.in-Some-entry_of.ensures c.read_row-answer.new.at c.read_row-answer.result (search rules) c.read_row-answer.ensures
-    c.of_channel.result c.set_row.new.rows c.of_channel.ensures c.set_row.ensures
+    let f : Found s.recording c.args.channel (Ok c.in_ok-column.column) = c.in_ok-column.ensures in
+    let b = f.1.within in
+    reads_column s.recording s.rows c.args.channel c.in_ok-column.column f c.read-answer.new.at c.read-answer.result c.map_err.result (search rules) c.read-answer.ensures (search rules)

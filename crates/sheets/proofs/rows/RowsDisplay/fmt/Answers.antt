@@ -1,12 +1,8 @@
-use Rattle.std.proofs.Common.{◌≡◌, ◌/◌, length, is_ok, ap, arith}
-use Rattle.std.proofs.Output.{writes_in_calls_nil, has_written_append, has_written_of_eq}
+use Rattle.std.proofs.Common.{length, is_ok, ap}
+use Rattle.std.proofs.Output.{has_written_append, has_written_of_eq}
 use Rattle.recordings.specs.Contents.{entries_of, rows_of}
-use Rattle.sheets.specs.Rows.{row_lines}
 use Rattle.sheets.proofs.Texts.{row_more}
 use Rattle.sheets.proofs.rows.RowsDisplay.fmt.Goals as goal
-
-pub loop-row-init : goal.loop-row-init
-loop-row-init g c = λ plain. record { wrote = writes_in_calls_nil g.W.Write.write_str_gives _; plain = plain }
 
 pub loop-row-preserved : goal.loop-row-preserved
 loop-row-preserved g c =
@@ -14,9 +10,3 @@ loop-row-preserved g c =
     let so = c.loop-row.invariant plain in
     has_written_of_eq g.W.Write.write_str_gives _ _ _ _ (row_more (rows_of c.args.self.now.0) (length (entries_of c.args.self.now.0)) c.loop-row.row)
     (has_written_append g.W.Write.write_str_gives _ _ _ _ _ so (c.write.ensures.writes so.plain (ap is_ok c.in_ok-write.was)))
-
-pub returns-clause-writes : goal.returns-clause-writes
-returns-clause-writes g c =
-    λ plain ok.
-    let e : c.loop-row.row ≡ length (rows_of c.args.self.now.0) / length (entries_of c.args.self.now.0) = omega (arith, c.row_count-row-end.ensures.count) in
-    has_written_of_eq g.W.Write.write_str_gives _ _ _ _ (ap (row_lines (rows_of c.args.self.now.0) (length (entries_of c.args.self.now.0))) e) (c.loop-row.invariant plain)
