@@ -2,7 +2,9 @@
 ghost use Rattle.std.specs.Prelude.{◌≡◌};
 ghost use Rattle.heads.specs.Answers.{answered};
 ghost use Rattle.heads.specs.PhaseTableLaws.{table_laws};
-ghost use Rattle.heads.specs.PhaseTables.{entry_of, table_channel, table_told, table_waits};
+ghost use Rattle.heads.specs.PhaseTables.{entry_of, table_told, table_waits};
+
+mod making;
 
 use crate::{Figures, Head, HeadFault, Plate, fit_figures};
 
@@ -12,22 +14,6 @@ pub struct PhaseTable<'a> {
     numbers: &'a [u32],
     modulus: u32,
     bound: u32,
-}
-
-impl<'a> PhaseTable<'a> {
-    /// All of the numbers wait.
-    pub fn new(numbers: &'a [u32], modulus: u32, bound: u32) -> PhaseTable<'a>
-        ensures means { table_channel result.modulus result.bound result.numbers.now ≡ table_channel modulus bound numbers.now }
-        ensures numbers { result.numbers.now ≡ numbers.now }
-        ensures modulus { result.modulus ≡ modulus }
-        ensures bound { result.bound ≡ bound }
-    {
-        PhaseTable {
-            numbers,
-            modulus,
-            bound,
-        }
-    }
 }
 
 /// What a number of a phase table answers when it is read: itself where it is a

@@ -1,7 +1,9 @@
 // Encoder tracks: a head that works its readings out one by one.
 ghost use Rattle.std.specs.Prelude.{◌≡◌, ◌<◌};
 ghost use Rattle.heads.specs.EncoderTrackLaws.{track_laws};
-ghost use Rattle.heads.specs.EncoderTracks.{track_channel, track_fits, track_reading, track_told, track_waits};
+ghost use Rattle.heads.specs.EncoderTracks.{track_fits, track_reading, track_told, track_waits};
+
+mod making;
 
 use crate::{Figures, Head, HeadFault, Plate, advance, fit_figures, fitness};
 
@@ -18,26 +20,6 @@ pub struct EncoderTrack {
 }
 
 impl EncoderTrack {
-    /// All of its readings wait.
-    pub fn new(modulus: u32, start: u32, step: u32, grain: u32, count: u32) -> EncoderTrack
-        ensures means { track_channel result.modulus result.start result.step result.grain result.count result.taken ≡ track_channel modulus start step grain count 0 }
-        ensures modulus { result.modulus ≡ modulus }
-        ensures start { result.start ≡ start }
-        ensures step { result.step ≡ step }
-        ensures grain { result.grain ≡ grain }
-        ensures count { result.count ≡ count }
-        ensures taken { result.taken ≡ 0 }
-    {
-        EncoderTrack {
-            modulus,
-            start,
-            step,
-            grain,
-            count,
-            taken: 0,
-        }
-    }
-
     // Whether the track's numbers are in their limits.
     fn is_fit(&self) -> bool
         ensures { result ≡ track_fits self.now.modulus self.now.start self.now.step self.now.grain self.now.count }

@@ -1,10 +1,10 @@
 // Gears: a layer that makes each reading larger by a whole factor.
-ghost use Rattle.std.specs.Prelude.{◌≡◌, ◌*◌, ◌≤◌};
-ghost use Rattle.heads.specs.Channels.{channel_of};
-ghost use Rattle.heads.specs.Standing.{Carried};
-ghost use Rattle.layers.specs.Carrying.{GearCarries, gear_over};
-ghost use Rattle.layers.specs.Layering.{Geared, gear_told, gear_waits};
+ghost use Rattle.std.specs.Prelude.{◌≡◌, ◌*◌, ◌≤◌, cond};
+ghost use Rattle.heads.specs.Answers.{Reads, rest};
+ghost use Rattle.layers.specs.Layering.{Geared, gear_proper, gear_told, gear_waits, layer_fits};
 ghost use Rattle.layers.specs.LayeringLaws.{gear_laws};
+
+mod making;
 
 use crate::layering::layered;
 use heads::{Figures, Head, HeadFault, Plate, fit_figures, fitness};
@@ -15,22 +15,6 @@ pub struct Gear<H> {
     below: H,
     scale: u32,
     slack: u32,
-}
-
-impl<H: Head> Gear<H> {
-    pub fn new(below: H, scale: u32, slack: u32) -> Gear<H>
-        ensures means { gear_over result.scale result.slack (channel_of (H.Head.shape result.below) (H.Head.waiting result.below)) ≡ gear_over scale slack (channel_of (H.Head.shape below) (H.Head.waiting below)) }
-        ensures stands { Carried (channel_of (H.Head.shape below) (H.Head.waiting below)) (gear_over scale slack (channel_of (H.Head.shape below) (H.Head.waiting below))) (GearCarries scale slack) }
-        ensures below { result.below ≡ below }
-        ensures scale { result.scale ≡ scale }
-        ensures slack { result.slack ≡ slack }
-    {
-        Gear {
-            below,
-            scale,
-            slack,
-        }
-    }
 }
 
 // The modulus and the bound behind a gear, where a plate may have them.
@@ -70,8 +54,13 @@ impl<H: Head> Head for Gear<H> {
         self.figures()
     }
 
+    // A layer that is not fit leaves what waits below.
     // A zero's read differs in its rule alone: a helper that took the rule as a closure would be no shorter.
-    fn read(&mut self) -> Result<u32, HeadFault> {
+    fn read(&mut self) -> Result<u32, HeadFault>
+        ensures reads { Reads (gear_told self.old.scale self.old.slack (H.Head.shape self.old.below)) (gear_waits self.old.scale self.old.slack (H.Head.shape self.old.below) (H.Head.waiting self.old.below)) result (gear_told self.new.scale self.new.slack (H.Head.shape self.new.below)) (gear_waits self.new.scale self.new.slack (H.Head.shape self.new.below) (H.Head.waiting self.new.below)) }
+        ensures below_figures { H.Head.shape self.new.below ≡ H.Head.shape self.old.below }
+        ensures below { H.Head.waiting self.new.below ≡ cond (layer_fits (gear_proper self.old.scale self.old.slack (H.Head.shape self.old.below)) (H.Head.shape self.old.below)) (rest (H.Head.waiting self.old.below)) (H.Head.waiting self.old.below) }
+    {
         fit_figures(self)?;
         let reading = self.below.read()?;
         Ok(scaled(reading, self.scale))

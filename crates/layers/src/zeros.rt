@@ -1,10 +1,10 @@
 // Zero offsets: a layer that adds a number to each reading, round the modulus.
-ghost use Rattle.std.specs.Prelude.{◌≡◌, ◌<◌};
-ghost use Rattle.heads.specs.Channels.{channel_of};
-ghost use Rattle.heads.specs.Standing.{Carried};
-ghost use Rattle.layers.specs.Carrying.{ZeroCarries, zero_over};
-ghost use Rattle.layers.specs.Layering.{zero_told, zero_turns, zero_waits};
+ghost use Rattle.std.specs.Prelude.{◌≡◌, ◌<◌, cond};
+ghost use Rattle.heads.specs.Answers.{Reads, rest};
+ghost use Rattle.layers.specs.Layering.{layer_fits, zero_proper, zero_told, zero_turns, zero_waits};
 ghost use Rattle.layers.specs.LayeringLaws.{zero_laws};
+
+mod making;
 
 use crate::layering::layered;
 use heads::{Figures, Head, HeadFault, Plate, fit_figures};
@@ -14,17 +14,6 @@ use heads::{Figures, Head, HeadFault, Plate, fit_figures};
 pub struct Zero<H> {
     below: H,
     zero: u32,
-}
-
-impl<H: Head> Zero<H> {
-    pub fn new(below: H, zero: u32) -> Zero<H>
-        ensures means { zero_over result.zero (channel_of (H.Head.shape result.below) (H.Head.waiting result.below)) ≡ zero_over zero (channel_of (H.Head.shape below) (H.Head.waiting below)) }
-        ensures stands { Carried (channel_of (H.Head.shape below) (H.Head.waiting below)) (zero_over zero (channel_of (H.Head.shape below) (H.Head.waiting below))) (ZeroCarries zero) }
-        ensures below { result.below ≡ below }
-        ensures zero { result.zero ≡ zero }
-    {
-        Zero { below, zero }
-    }
 }
 
 // A reading with the offset added.
@@ -56,8 +45,13 @@ impl<H: Head> Head for Zero<H> {
         self.figures()
     }
 
+    // A layer that is not fit leaves what waits below.
     // A gear's read differs in its rule alone: a helper that took the rule as a closure would be no shorter.
-    fn read(&mut self) -> Result<u32, HeadFault> {
+    fn read(&mut self) -> Result<u32, HeadFault>
+        ensures reads { Reads (zero_told self.old.zero (H.Head.shape self.old.below)) (zero_waits self.old.zero (H.Head.shape self.old.below) (H.Head.waiting self.old.below)) result (zero_told self.new.zero (H.Head.shape self.new.below)) (zero_waits self.new.zero (H.Head.shape self.new.below) (H.Head.waiting self.new.below)) }
+        ensures below_figures { H.Head.shape self.new.below ≡ H.Head.shape self.old.below }
+        ensures below { H.Head.waiting self.new.below ≡ cond (layer_fits (zero_proper self.old.zero (H.Head.shape self.old.below)) (H.Head.shape self.old.below)) (rest (H.Head.waiting self.old.below)) (H.Head.waiting self.old.below) }
+    {
         let told = fit_figures(self)?;
         let reading = self.below.read()?;
         Ok(offset(reading, self.zero, told.modulus))

@@ -20,7 +20,7 @@ fit_drop false (suc n) v u h = refl
 turned_drop : (f : Entry → Entry) (n : ℕ) (w : List Entry) → drop n (map f w) ≡ map f (drop (n * 1) w)
 turned_drop f n w = drop-map f n w ∙ ap (λ (k : ℕ). map f (drop k w)) (sym (mul-one n))
 
-rest_first : (n : ℕ) (v : List Entry) → drop (suc n) v ≡ drop n (rest v)
+pub rest_first : (n : ℕ) (v : List Entry) → drop (suc n) v ≡ drop n (rest v)
 rest_first zero [] = refl
 rest_first (suc n) [] = refl
 rest_first n (e ∷ v) = refl

@@ -4,5 +4,7 @@
 mod standing;
 #[cfg(test)]
 mod tests;
+mod worked;
 
 pub use standing::piles_stand;
+pub use worked::worked_piles;

@@ -5,6 +5,9 @@ ghost use Rattle.piles.specs.Deep.{deep_laws, deep_told, deep_waits};
 use heads::{Figures, Head, HeadFault, PhaseTable, Plate};
 use layers::{Burst, Gear, Zero};
 
+mod faults;
+mod limits;
+
 const DARK: u32 = 4294967295;
 
 // A head at the depth given, 255 at most, in which nothing waits.
