@@ -24,7 +24,7 @@ PATTERNS = {
 
 def sources(root):
     for path in sorted(root.glob("crates/*/src/**/*.rt")):
-        if path.name == "tests.rt":
+        if path.name == "tests.rt" or "tests" in path.parts:
             continue
         text = path.read_text().split("#[cfg(test)]\nmod tests {")[0]
         yield path.relative_to(root), text

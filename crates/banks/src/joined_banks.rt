@@ -20,6 +20,7 @@ pub struct Joined<A, B> {
 }
 
 // How many channels banks of these counts have as one; a sum past the greatest number is above the limit.
+// The limit of joining and that of a recording are two rules, so playbacks have a test of their own.
 fn together(first: usize, second: usize) -> usize
     ensures { result ≡ joined_count first second }
 {

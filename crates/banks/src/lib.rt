@@ -40,6 +40,11 @@ mod tests {
         let mut nine = Joined::new(eight, track(30));
         assert_eq!(rt; nine.count(), 0);
         assert_eq!(rt; nine.read(8), Err(BankFault::NoSuchChannel { channel: 8 }));
+        assert_eq!(rt; nine.read(0), Err(BankFault::NoSuchChannel { channel: 0 }));
+        assert_eq!(rt;
+            nine.figures(0),
+            Err(BankFault::NoSuchChannel { channel: 0 })
+        );
     }
 
     #[test]

@@ -145,6 +145,7 @@ fn remainder_line(setting: &Setting, text: &[u8]) -> Result<Told, End> {
 struct Case {
     stage: Stage,
     desk: Desk,
+    // Counted here, and not by the iterator: a case begins in the middle of the input, and the line after its last is told too.
     lines: u64,
 }
 

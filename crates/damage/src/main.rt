@@ -25,6 +25,7 @@ const ENTRIES: Range<usize> = 41..65;
 const ENDING: Range<usize> = 65..81;
 
 /// Bytes in base ten.
+// Bytes and rows are printed here and not by the desk's crates: this program stands on the library alone.
 #[derive(Clone, Copy)]
 struct Bytes<'a>(&'a [u8]);
 
@@ -47,6 +48,7 @@ struct Row<'a> {
 
 impl fmt::Display for Row<'_> {
     fn fmt<W: fmt::Write>(&self, f: &mut fmt::Formatter<W>) -> fmt::Result {
+        // By number, and not over `row`: past the last row each channel tells none, and this prints it.
         let channels = 0..self.recording.channel_count();
         for number in channels.map(|channel| self.recording.number(self.row, channel)) {
             match number {
@@ -86,12 +88,10 @@ fn tell_whole(rt: &HostRuntime, bytes: &[u8]) -> io::Result<()> {
         return Ok(());
     };
     println!(rt; "note {}", Bytes(recording.note()))?;
-    let channels = 0..recording.channel_count();
-    for (channel, entry) in channels.filter_map(|k| recording.entry(k)).enumerate() {
-        let ChannelEntry { modulus, bound } = entry;
+    for (channel, ChannelEntry { modulus, bound }) in recording.entries().enumerate() {
         println!(rt; "channel {channel} modulus {modulus} bound {bound}")?;
     }
-    // One row more than there are.
+    // By number, which is printed, and one row more than there are.
     for row in 0..=recording.row_count() {
         println!(rt; "row {row}{}", Row { recording, row })?;
     }
@@ -108,6 +108,7 @@ fn cut_short(rt: &HostRuntime, bytes: &[u8]) -> io::Result<()> {
 }
 
 /// The bytes with one of them changed to each of these values in turn; it is put back.
+// By its place, which is printed.
 fn change(rt: &HostRuntime, bytes: &mut [u8], place: usize, values: &[u8]) -> io::Result<()> {
     let Some(&kept) = bytes.get(place) else {
         return Ok(());

@@ -1,5 +1,5 @@
-// Numbers and entries into parts of the output.
-ghost use Rattle.std.specs.Prelude.{◌≡◌, ℕ, ◌*◌, List, length};
+// A note, numbers and entries into parts of the output.
+ghost use Rattle.std.specs.Prelude.{◌≡◌, ℕ, ◌*◌, List, [], ◌∷◌, length};
 ghost use Rattle.recordings.specs.Layout.{pair_of};
 ghost use Rattle.recordings.specs.Numbers.{bytes_of};
 ghost use Rattle.std.specs.List.{flat_map};
@@ -12,6 +12,15 @@ pub(crate) trait Item<const N: usize> {
 
     fn bytes(&self) -> [u8; N]
         ensures { result ≡ spelled self.now };
+}
+
+/// A byte of the note.
+impl Item<1> for u8 {
+    ghost spelled = { λ b. b ∷ [] };
+
+    fn bytes(&self) -> [u8; 1] {
+        [*self]
+    }
 }
 
 /// A number: least byte first.

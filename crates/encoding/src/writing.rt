@@ -36,7 +36,7 @@ impl Contents<'_> {
         let ending_at = place + ENTRY_BYTES * self.entries.len();
         let end = ending_at + ENDING_BYTES;
         let ending = ending_of(place, self.rows.len(), self.entries.len());
-        out[..rows_at].copy_from_slice(self.note);
+        put_each(&mut out[..rows_at], self.note);
         put_each(&mut out[rows_at..place], self.rows);
         put_each(&mut out[place..ending_at], self.entries);
         put_each(&mut out[ending_at..end], &ending);

@@ -33,13 +33,14 @@ pub(crate) fn line_of_fix(fix: &Fix) -> ArrayString<ROOM>
 }
 
 /// The line of a fault.
+// By hand and not by its `Display`: of a `write!` into the text nothing tells that it succeeds.
 pub(crate) fn line_of_fault(fault: &Fault) -> ArrayString<ROOM>
     ensures { result.bytes ≡ fault_line fault.now }
 {
     let mut line = ArrayString::new();
-    put(&mut line, "refused ", fault.code as u64);
+    put(&mut line, "refused ", u64::from(fault.code));
     put(&mut line, " channel ", fault.channel as u64);
-    put(&mut line, " depth ", fault.depth as u64);
+    put(&mut line, " depth ", u64::from(fault.depth));
     line.push('\n');
     line
 }

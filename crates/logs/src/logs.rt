@@ -35,7 +35,7 @@ impl<'a, T: Drop> Log<'a, T> {
     pub fn count(&self) -> usize
         ensures { result ≡ length (held self.now) }
     {
-        self.count
+        self.records().len()
     }
 
     /// Whether there are as many records as places.

@@ -37,7 +37,7 @@ impl<T: Drop> Sink<T> for Slot<T> {
     }
 
     fn append(&mut self, record: T) -> Result<(), AppendRefusal> {
-        if self.kept.is_some() {
+        if self.is_full() {
             return Err(AppendRefusal::Full);
         }
         self.kept = Some(record);

@@ -21,8 +21,8 @@ pub struct Playback<'a> {
 impl<'a> Playback<'a> {
     /// A checked recording from its first row on: each channel is a phase table over its column.
     pub fn new(recording: Recording<'a>) -> Playback<'a>
-        ensures many { 8 < length (entries_of recording.entry) → playback_channels result.recording result.rows ≡ [] }
-        ensures plays { length (entries_of recording.entry) ≤ 8 → Plays (rows_of recording.entry) (entries_of recording.entry) (playback_channels result.recording result.rows) }
+        ensures many { 8 < length (entries_of recording.entry) → ⟦<Playback<'a> as Bank>⟧.channels result ≡ [] }
+        ensures plays { length (entries_of recording.entry) ≤ 8 → Plays (rows_of recording.entry) (entries_of recording.entry) (⟦<Playback<'a> as Bank>⟧.channels result) }
     {
         Playback {
             recording: Some(recording),
@@ -32,7 +32,7 @@ impl<'a> Playback<'a> {
 
     /// The recording that these bytes are, from its first row on; bytes that are none have no channel.
     pub fn of(bytes: &'a [u8]) -> Playback<'a>
-        ensures { PlayedBytes bytes.now (playback_channels result.recording result.rows) }
+        ensures { PlayedBytes bytes.now (⟦<Playback<'a> as Bank>⟧.channels result) }
     {
         Playback {
             recording: Recording::check(bytes).ok(),
@@ -75,6 +75,6 @@ impl<'a> Bank for Playback<'a> {
     fn read(&mut self, channel: usize) -> Result<u32, BankFault> {
         let column = self.column(channel)?;
         let answer = column.read(&mut self.rows[channel]);
-        answer.map_err(|fault| BankFault::Refused { channel, fault })
+        answer.map_err(|fault| BankFault::from(fault).at(channel))
     }
 }

@@ -3,43 +3,32 @@
 
 use anyhow::anyhow;
 use programs::{Program, serve};
-use sheets::{BadSheet, RecordError, Sheet};
+use records::Fault;
+use sheets::{BadLine, NotRecorded, RecordError, recorded};
 use std::alloc::Global;
-use std::io::{BufRead, BufReader, Write};
+use std::io::{Read, Write};
 use std::process::ExitCode;
-use tables::refusal_line;
 
-/// The report of a line with bad text.
-fn at_line(number: u64, bad: BadSheet) -> anyhow::Error {
-    anyhow!("record: line {number}: {bad}")
-}
-
-/// The report of a sheet that is not recorded.
-fn not_recorded(heap: Global, error: RecordError) -> anyhow::Error {
+/// The report of a table that is not recorded.
+// A bad line has the program's name before it, which `unfold` leaves to the prefix of its errors: the line of a refusal stands alone.
+fn report(error: NotRecorded) -> anyhow::Error {
     match error {
-        RecordError::NoMemory => anyhow!("record: out of memory"),
-        RecordError::Refused(refusal) => match refusal_line(heap, refusal.into()) {
-            Ok(text) => anyhow!("{text}"),
-            Err(e) => e.into(),
-        },
+        NotRecorded::Line(BadLine { line, bad }) => anyhow!("record: line {line}: {bad}"),
+        NotRecorded::Unwritten(RecordError::NoMemory) => anyhow!("record: out of memory"),
+        NotRecorded::Unwritten(RecordError::Refused(refusal)) => {
+            anyhow!("{}", Fault::from(refusal))
+        }
     }
 }
 
-/// The recording of a table.
-fn recording<B: BufRead + Drop>(heap: Global, input: B) -> anyhow::Result<Vec<u8>> {
-    let mut sheet = Sheet::new(heap);
-    // Counted here, and not by the iterator, since the end of the input has a number too.
-    let mut number: u64 = 1;
-    for line in input.split(heap, b'\n') {
-        sheet = sheet
-            .line(line?.as_slice())
-            .map_err(|bad| at_line(number, bad))?;
-        number = number.saturating_add(1);
-    }
-    sheet.end().map_err(|bad| at_line(number, bad))?;
-    sheet
-        .record(heap)
-        .map_err(|error| not_recorded(heap, error))
+/// Reads a table, and writes its recording, or nothing if there is none.
+fn record_table<R: Read, W: Write>(heap: Global, input: &mut R, out: &mut W) -> anyhow::Result<()> {
+    let mut text = Vec::new(heap);
+    input.read_to_end(&mut text)?;
+    let bytes = recorded(heap, text.as_slice()).map_err(report)?;
+    out.write_all(bytes.as_slice())?;
+    out.flush()?;
+    Ok(())
 }
 
 struct Record;
@@ -58,11 +47,7 @@ and then, as with bad text, nothing is written and the status is 1.
 ";
 
     fn job(rt: &HostRuntime) -> anyhow::Result<()> {
-        let bytes = recording(rt.alloc(), BufReader::new(rt.alloc(), rt.stdin())?)?;
-        let mut out = rt.stdout();
-        out.write_all(bytes.as_slice())?;
-        out.flush()?;
-        Ok(())
+        record_table(rt.alloc(), &mut rt.stdin(), &mut rt.stdout())
     }
 }
 
@@ -75,35 +60,54 @@ mod tests {
     use super::*;
     use std::test::Fail;
 
-    // What is reported of a table that is not recorded.
-    fn report(heap: Global, table: &[u8]) -> Result<String, Fail> {
-        match recording(heap, table) {
-            Ok(_) => Err(Fail::new("recorded")),
-            Err(e) => Ok(e.to_string(heap)?),
+    // What is reported of a table that is not recorded, and that nothing is written then.
+    fn reported(heap: Global, table: &[u8]) -> Result<String, Fail> {
+        let mut out: Vec<u8> = Vec::new(heap);
+        let Err(e) = record_table(heap, &mut &*table, &mut out) else {
+            return Err(Fail::new("recorded"));
+        };
+        if !out.is_empty() {
+            return Err(Fail::new("written"));
         }
+        Ok(e.to_string(heap)?)
+    }
+
+    #[test]
+    fn a_recording_is_written(rt: HostRuntime) -> Result<(), Fail> {
+        let mut out = Vec::new(rt.alloc());
+        record_table(
+            rt.alloc(),
+            &mut b"moduli 30 40\nbounds 2 0\n19 -".as_slice(),
+            &mut out,
+        )?;
+        assert_eq!(rt;
+            out.as_slice(),
+            b"\x13\x00\x00\x00\xff\xff\xff\xff\x1e\x00\x00\x00\x02\x00\x00\x00\x28\x00\x00\x00\x00\x00\x00\x00\x08\x00\x00\x00\x01\x00\x00\x00\x02\x00\x00\x00\x01\x00\x00\x00".as_slice()
+        );
+        Ok(())
     }
 
     #[test]
     fn refusals_and_bad_text(rt: HostRuntime) -> Result<(), Fail> {
         let heap = rt.alloc();
         assert_eq!(rt;
-            report(heap, b"moduli 30 40\nbounds 2 10\n1 2\n")?.as_str(),
+            reported(heap, b"moduli 30 40\nbounds 2 10\n1 2\n")?.as_str(),
             "refused 43 channel 1 depth 0"
         );
         assert_eq!(rt;
-            report(heap, b"moduli\nbounds\n")?.as_str(),
+            reported(heap, b"moduli\nbounds\n")?.as_str(),
             "refused 47 channel 0 depth 0"
         );
         assert_eq!(rt;
-            report(heap, b"# two\nmoduli 30 40\nbounds 2\n")?.as_str(),
+            reported(heap, b"# two\nmoduli 30 40\nbounds 2\n")?.as_str(),
             "record: line 3: 1 bounds for 2 moduli"
         );
         assert_eq!(rt;
-            report(heap, b"moduli 30 40\nbounds 2 2\n\n1 2 3\n")?.as_str(),
+            reported(heap, b"moduli 30 40\nbounds 2 2\n\n1 2 3\n")?.as_str(),
             "record: line 4: a row of 3 for 2 moduli"
         );
         assert_eq!(rt;
-            report(heap, b"moduli 30 40\n")?.as_str(),
+            reported(heap, b"moduli 30 40\n")?.as_str(),
             "record: line 2: no bounds line"
         );
         Ok(())

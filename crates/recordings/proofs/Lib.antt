@@ -4,4 +4,5 @@ pub mod Places
 pub mod Meanings
 mod Passing
 pub mod Columns
+mod Walks
 mod Firsts

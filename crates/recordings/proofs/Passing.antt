@@ -1,8 +1,11 @@
 -- Bytes that pass every check are a recording.
-use Rattle.std.proofs.Common.{◌≡◌, ℕ, ◌+◌, ◌-◌, ◌*◌, ◌/◌, ◌<◌, ◌≤◌, List, [], ◌∷◌, ◌++◌, length, get_or, take, drop, sym, ap, ◌∙◌, subst, arith}
+use Rattle.std.proofs.Common.{◌≡◌, ℕ, Bool, true, false, cond, None, Some, is_some, ◌+◌, ◌-◌, ◌*◌, ◌/◌, ◌<◌, ◌≤◌, List, [], ◌∷◌, ◌++◌, length, get_or, position, take, drop, sym, refl, ap, ◌∙◌, subst, arith}
 use native.Mathlib.Nat.{div-eq_of_eq-mul_left}
 use Rattle.std.specs.List.{flat_map, AllByRecursion}
 use Rattle.std.proofs.lemmas.List.{drop_all, drop-drop, get_or-take, get_or-drop, length-drop, length-take-le, take-append-drop}
+use Rattle.std.proofs.lemmas.Bool.{false≢true, true≢false, ltb-false, not-false, not-true}
+use Rattle.std.proofs.lemmas.List.Sums.{fails_before_first}
+use Rattle.std.proofs.lemmas.List.Quantifiers.{position-Some}
 use Rattle.std.proofs.lemmas.List.Concat.{flat_map-append}
 use Rattle.std.proofs.ByRecursion.{All-drop, All-from_get_or, All-take}
 use Rattle.std.proofs.lemmas.Option.{get_or_from_slice_get}
@@ -10,7 +13,7 @@ use Rattle.recordings.specs.declared.entries.ChannelEntry.{ChannelEntry}
 use Rattle.recordings.specs.Numbers.{bytes_of, number_from, numbers_in}
 use Rattle.recordings.specs.Layout.{pair_of, EntryFits, place_of, ending, encoded, Records}
 use Rattle.recordings.specs.Contents.{entry_from, entries_in}
-use Rattle.recordings.specs.Refusals.{place_in, row_count_in, channel_count_in, edition_in, rows_place_in, Counted, PlacesAgree, FitsFrom, UnfitFirst}
+use Rattle.recordings.specs.Refusals.{place_in, row_count_in, channel_count_in, edition_in, rows_place_in, Counted, PlacesAgree, UnfitFirst, unfit}
 use Rattle.recordings.proofs.Words.{Byte, Word, bytes_back, length_numbers, next_number, number_word, numbers_words}
 use Rattle.recordings.proofs.Pairs.{length_entries, pairs_back}
 use Rattle.recordings.proofs.Columns.{entry_found, length_entries_in}
@@ -41,14 +44,16 @@ entry_of_part p n q bs h =
     let a : p + (q + 4) ≡ p + q + 4 = omega arith in
     cc
 
--- every entry of a part is fit
-fit_entries : (ents : List ℕ) → ((k : ℕ) → k < length ents / 8 → FitsFrom ents (8 * k)) → AllByRecursion EntryFits (entries_in (numbers_in ents))
-fit_entries ents fit =
-    let es = entries_in (numbers_in ents) in
+-- no entry is unfit
+past : (b : Bool) (i : ℕ) → None ≡ cond b (Some i) None → b ≡ false
+past true i e = absurd (false≢true (ap is_some e))
+past false i e = refl
+
+all_fit : (es : List ChannelEntry) → None ≡ position unfit es → AllByRecursion EntryFits es
+all_fit es e =
     let d : ChannelEntry = record { modulus = 0; bound = 0 } in
-    let l = length_entries_in ents in
-    All-from_get_or EntryFits es d
-    (λ k h. let lt : k < length ents / 8 = omega arith in rw (get_or_from_slice_get es k (entry_from ents (8 * k)) d (entry_found ents k lt)) (fit k lt))
+    let end = ltb-false _ _ (past _ _ e) in
+    All-from_get_or EntryFits es d (λ k h. not-false _ (fails_before_first unfit es k d (omega arith)))
 
 -- the last 16 bytes are those of the last four numbers
 ending_bytes : (bs : List ℕ) → ((i : ℕ) → Byte (get_or bs i 0)) → 16 ≤ length bs
@@ -67,7 +72,7 @@ ending_bytes bs h l =
 
 -- every check passes: the bytes record what stands in their parts
 passing : (bs : List ℕ) → ((i : ℕ) → Byte (get_or bs i 0)) → Counted bs → PlacesAgree bs
-    → (let ents = take (8 * channel_count_in bs) (drop (place_in bs) bs) in (k : ℕ) → k < length ents / 8 → FitsFrom ents (8 * k))
+    → None ≡ position unfit (entries_in (numbers_in (take (8 * channel_count_in bs) (drop (place_in bs) bs))))
     → Records bs (take (rows_place_in bs) bs) (numbers_in (take (place_in bs - rows_place_in bs) (drop (rows_place_in bs) bs))) (entries_in (numbers_in (take (8 * channel_count_in bs) (drop (place_in bs) bs))))
 passing bs small counted agree fit =
     let a = rows_place_in bs in
@@ -118,7 +123,7 @@ passing bs small counted agree fit =
         few = omega (arith, counted.few);
         whole = lxs ∙ ap (λ z. z * c) (sym count) ∙ ap (λ z. length xs / length es * z) (sym les);
         small = numbers_words rows (All-take Byte _ _ (All-drop Byte a bs all));
-        fit = fit_entries ents fit;
+        fit = all_fit es fit;
         reached = omega arith;
       };
       bytes_are = sym whole;
@@ -127,24 +132,27 @@ passing bs small counted agree fit =
 -- the same, of the parts that the code has
 pub passed : (bs note rows ents : List ℕ) → ((i : ℕ) → Byte (get_or bs i 0)) → Counted bs → PlacesAgree bs
     → note ≡ take (rows_place_in bs) bs → rows ≡ take (place_in bs - rows_place_in bs) (drop (rows_place_in bs) bs) → ents ≡ take (8 * channel_count_in bs) (drop (place_in bs) bs)
-    → ((k : ℕ) → k < length ents / 8 → FitsFrom ents (8 * k))
+    → None ≡ position unfit (entries_in (numbers_in ents))
     → Records bs note (numbers_in rows) (entries_in (numbers_in ents))
 passed bs note rows ents small counted agree enote erows eents fit =
     rw (enote, erows, eents) (passing bs small counted agree (rw eents at fit))
 
 -- and an entry that is unfit in its part is unfit in the bytes
 pub unfit_at : (bs ents : List ℕ) (k : ℕ) → PlacesAgree bs → ents ≡ take (8 * channel_count_in bs) (drop (place_in bs) bs)
-    → UnfitFirst ents 0 (length ents / 8) k → UnfitFirst bs (place_in bs) (channel_count_in bs) k
+    → Some k ≡ position unfit (entries_in (numbers_in ents)) → UnfitFirst bs (place_in bs) (channel_count_in bs) k
 unfit_at bs ents k agree e u =
     let p = place_in bs in
     let c = channel_count_in bs in
+    let es = entries_in (numbers_in ents) in
+    let d : ChannelEntry = record { modulus = 0; bound = 0 } in
     let ends : p + 8 * c + 16 ≡ length bs = agree.ends in
     let l : length ents ≡ 8 * c = ap length e ∙ length-take-le _ _ (simp length-drop (omega arith)) in
-    let same : (i : ℕ) → i < c → entry_from ents (0 + 8 * i) ≡ entry_from bs (p + 8 * i) =
-    λ i h. let z : p + (0 + 8 * i) ≡ p + 8 * i = omega arith in ap (λ es. entry_from es (0 + 8 * i)) e ∙ entry_of_part p (8 * c) (0 + 8 * i) bs (omega arith) ∙ ap (entry_from bs) z in
-    let lt : k < c = omega (arith, u.within) in
+    let same : (i : ℕ) → i < c → get_or es i d ≡ entry_from bs (p + 8 * i) =
+    λ i h. get_or_from_slice_get es i (entry_from ents (8 * i)) d (entry_found ents i (omega arith)) ∙ ap (λ z. entry_from z (8 * i)) e ∙ entry_of_part p (8 * c) (8 * i) bs (omega arith) in
+    let so = position-Some unfit es k d (sym u) in
+    let lt : k < c = omega (arith, so.0, length_entries_in ents) in
     record {
       within = lt;
-      fit_before = λ i h. subst EntryFits (same i (omega arith)) (u.fit_before i h);
-      unfit = λ f. u.unfit (subst EntryFits (sym (same k lt)) f);
+      fit_before = λ i h. subst EntryFits (same i (omega arith)) (not-false _ (so.2 i h));
+      unfit = λ f. true≢false (sym (subst EntryFits (sym (same k lt)) f) ∙ not-true _ so.1);
     }

@@ -1,6 +1,8 @@
 -- Each refusal's number and fields, and when it is the answer. Assumes nothing.
-use Rattle.std.specs.Prelude.{◌≡◌, ℕ, ◌+◌, ◌-◌, ◌*◌, ◌<◌, ◌≤◌, List, length, take, drop, Ok, Err, Result, ◌≢◌}
+use Rattle.std.specs.Prelude.{◌≡◌, ℕ, Bool, not, ◌+◌, ◌-◌, ◌*◌, ◌<◌, ◌≤◌, List, length, take, drop, Ok, Err, Result, ◌≢◌}
 use Rattle.records.specs.declared.faults.Fault.{Fault}
+use Rattle.heads.specs.Figures.{fits}
+use Rattle.recordings.specs.declared.entries.ChannelEntry.{ChannelEntry}
 use Rattle.recordings.specs.declared.recording.Recording.{Recording}
 use Rattle.recordings.specs.declared.refusals.CheckRefusal.{CheckRefusal}
 use Rattle.recordings.specs.declared.refusals.CheckRefusal.TheVariants.{TooShort, Edition, Channels, Places, UnfitEntry}
@@ -40,6 +42,10 @@ pub record PlacesAgree (bs : List ℕ) : Type 0 where
 -- the entry whose first byte stands at place p is fit
 abbrev pub FitsFrom : (bs : List ℕ) (p : ℕ) → Type 0
 FitsFrom bs p = EntryFits (entry_from bs p)
+
+-- an entry beyond the limits of a plate
+abbrev pub unfit : ChannelEntry → Bool
+unfit e = not (fits e.modulus e.bound)
 
 -- k is the lowest of c channels whose entry, from place p on, is unfit
 pub record UnfitFirst (bs : List ℕ) (p c k : ℕ) : Type 0 where

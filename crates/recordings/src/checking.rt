@@ -1,21 +1,20 @@
 // The check: bytes that are a recording, or the first reason why they are none.
-ghost use Rattle.std.specs.Prelude.{ℕ, ◌*◌, ◌/◌, ◌<◌, length, MatchOption};
+ghost use Rattle.std.specs.Prelude.{◌≡◌};
+ghost use Rattle.std.specs.List.{position};
 ghost use Rattle.recordings.specs.Laws.{OneRefusal, RecordsOne, RefusedRecordsNothing};
-ghost use Rattle.recordings.specs.Refusals.{Checked, FitsFrom, UnfitFirst};
+ghost use Rattle.recordings.specs.Refusals.{Checked, unfit};
+ghost use Rattle.recordings.specs.Walking.{entries_left};
 
 use crate::endings::Ending;
-use crate::numbers::entry_at;
-use crate::{CheckRefusal, ENTRY_BYTES, Recording};
+use crate::{CheckRefusal, Entries, Recording};
 use heads::fitness;
 
-/// The lowest channel whose entry is unfit, where these are the bytes of all entries.
-fn first_unfit(entries: &[u8]) -> Option<usize>
-    ensures { MatchOption result ((k : ℕ) → k < length entries.now / 8 → FitsFrom entries.now (8 * k)) (UnfitFirst entries.now 0 (length entries.now / 8)) }
+/// The lowest channel whose entry is unfit.
+#[tactic(auto, using(crate::proofs::Columns::length_entries_in))]
+fn first_unfit(mut entries: Entries) -> Option<usize>
+    ensures { result ≡ position unfit (entries_left entries.entry) }
 {
-    (0..entries.len() / ENTRY_BYTES).find(|&channel| {
-        let entry = entry_at(entries, channel);
-        !fitness(entry.modulus, entry.bound)
-    })
+    entries.position(|entry| !fitness(entry.modulus, entry.bound))
 }
 
 impl<'a> Recording<'a> {
@@ -27,7 +26,7 @@ impl<'a> Recording<'a> {
         ensures one_refusal { OneRefusal }
     {
         let recording = Ending::read(bytes)?.cut()?;
-        if let Some(channel) = first_unfit(recording.entries) {
+        if let Some(channel) = first_unfit(recording.entries()) {
             return Err(CheckRefusal::UnfitEntry { channel });
         }
         Ok(recording)

@@ -65,6 +65,7 @@ impl Candidate<'_> {
     }
 
     /// The inverse of one factor modulo a later factor; 0 where the second channel is no later one.
+    // By the numbers of the two channels, since a refusal tells them, and tells the lowest pair.
     fn inverse(&self, first: usize, second: usize) -> Result<u32, SettingRefusal>
         ensures { MatchResult result (InverseFor self.now.factors.now first second) (TellsPair self.now.factors.now first second) }
     {

@@ -45,7 +45,7 @@ impl From<SettingRefusal> for Fault {
                 first,
                 second,
                 divisor,
-            } => (5, first, second as u64, divisor as u64),
+            } => (5, first, second as u64, u64::from(divisor)),
             SettingRefusal::Range { channel } => (6, channel, 0, 0),
         };
         Fault {

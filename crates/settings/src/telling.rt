@@ -29,6 +29,7 @@ impl Setting {
     }
 
     /// The modulus of each channel: the unit times its factor.
+    // Cut as the factors are: one function of both would be told the table and the count, and be no shorter.
     pub fn moduli(&self) -> &[u32]
         ensures { ModuliTold self.now result.now }
     {

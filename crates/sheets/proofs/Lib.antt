@@ -1,3 +1,5 @@
 mod Returning
 mod Texts
 mod Writing
+mod Feeds
+mod Coming

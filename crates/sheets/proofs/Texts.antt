@@ -1,27 +1,16 @@
 -- A table that is written part by part.
-use Rattle.std.proofs.Common.{◌≡◌, ℕ, suc, ◌+◌, ◌<◌, ◌≤◌, cond, List, [], ◌∷◌, ◌++◌, length, get_or, take, None, codes, decimal, Option, unwrap_or, sym, ap, ◌∙◌, arith}
-use Rattle.std.specs.Option.{option_map}
+use Rattle.std.proofs.Common.{◌≡◌, ℕ, suc, ◌+◌, ◌<◌, cond, List, [], ◌∷◌, ◌++◌, length, None, codes, decimal, Option, ap, ◌∙◌, arith}
 use Rattle.std.specs.List.{slice_get}
-use Rattle.std.proofs.lemmas.List.{flat_map_more, take_all, take_more}
-use Rattle.std.proofs.lemmas.Option.{slice_get-get_or}
+use Rattle.std.proofs.lemmas.List.{flat_map_more}
 use Rattle.std.proofs.lemmas.Bool.{lt-ltb}
 use Rattle.recordings.specs.declared.entries.ChannelEntry.{ChannelEntry}
 use Rattle.recordings.specs.declared.recording.Recording.{Recording}
 use Rattle.recordings.specs.Contents.{column_of, entries_of, number_told, rows_of}
-use Rattle.sheets.specs.Rows.{cells, figure_at, figure_words, gap_of, row_lines, word_of}
-
-abbrev pub none : ChannelEntry
-none = record { modulus = 0; bound = 0 }
+use Rattle.sheets.specs.Rows.{cells, figure_words, gap_of, row_lines, word_of}
 
 -- one more entry
-pub figure_more : (f : ChannelEntry → ℕ) (es : List ChannelEntry) (k n : ℕ) → k < length es → n ≡ figure_at f es k → figure_words f (take k es) ++ (32 ∷ decimal n) ≡ figure_words f (take (k + 1) es)
-figure_more f es k n lt en =
-    ap (λ z. figure_words f (take k es) ++ (32 ∷ decimal z)) (en ∙ ap (λ o. unwrap_or (option_map f o) 0) (slice_get-get_or es k none lt))
-    ∙ flat_map_more (λ e. 32 ∷ decimal (f e)) [] (take k es) (get_or es k none)
-    ∙ sym (ap (figure_words f) (take_more es k none lt))
-
-pub figure_all : (f : ChannelEntry → ℕ) (es : List ChannelEntry) (k : ℕ) → length es ≤ k → figure_words f (take k es) ≡ figure_words f es
-figure_all f es k le = ap (figure_words f) (take_all k es le)
+pub figure_more : (f : ChannelEntry → ℕ) (es : List ChannelEntry) (e : ChannelEntry) (n : ℕ) → n ≡ f e → figure_words f es ++ (32 ∷ decimal n) ≡ figure_words f (es ++ e ∷ [])
+figure_more f es e n en = ap (λ z. figure_words f es ++ (32 ∷ decimal z)) en ∙ flat_map_more (λ d. 32 ∷ decimal (f d)) [] es e
 
 -- one more number of row i
 pub cell_more : (r : Recording) (i k : ℕ) (g : List ℕ) (o : Option ℕ) → k < length (entries_of r) → g ≡ gap_of k → o ≡ number_told r i k

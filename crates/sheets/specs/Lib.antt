@@ -5,3 +5,4 @@ pub mod Making
 pub mod Rows
 pub mod Printing
 pub mod Headings
+pub mod Whole

@@ -7,8 +7,10 @@ mod making;
 mod notes;
 mod printing;
 mod rows;
+mod whole;
 
 pub use errors::BadSheet;
 pub use lines::Sheet;
 pub use making::RecordError;
 pub use printing::printed;
+pub use whole::{BadLine, NotRecorded, recorded};

@@ -5,7 +5,7 @@ ghost use Rattle.sheets.specs.declared.making.RecordError.TheVariants.{NoMemory,
 
 use crate::lines::Sheet;
 use encoding::{WriteRefusal, write};
-use recordings::ChannelEntry;
+use recordings::{ChannelEntry, ENDING_BYTES, ENTRY_BYTES, NUMBER_BYTES};
 use std::alloc::{AllocError, AllocFailed as NoPlace, Global};
 
 /// Why a sheet is not recorded: the writer refuses it, or memory is wanting.
@@ -44,15 +44,16 @@ impl<T: Drop> From<NoPlace<T>> for RecordError {
 const LIMIT: usize = 1 << 31;
 
 /// The bytes of a recording with so many in its note, numbers and channels; at most the limit.
+// The writer adds up the same, but over parts that are there, and asks whether they fit.
 fn room(note: usize, numbers: usize, channels: usize) -> usize
     ensures { note + 4 * numbers + 8 * channels + 16 ≤ 2 ^ 31 → result ≡ note + 4 * numbers + 8 * channels + 16 }
 {
     // A count that would wrap stays at the greatest number, which is above the limit.
     numbers
-        .saturating_mul(4)
-        .saturating_add(channels.saturating_mul(8))
+        .saturating_mul(NUMBER_BYTES)
+        .saturating_add(channels.saturating_mul(ENTRY_BYTES))
         .saturating_add(note)
-        .saturating_add(16)
+        .saturating_add(ENDING_BYTES)
         .min(LIMIT)
 }
 

@@ -1,5 +1,5 @@
 // The parts of a printed table: entries, rows and their numbers.
-ghost use Rattle.std.specs.Prelude.{◌≡◌, ℕ, ◌/◌, length, Some};
+ghost use Rattle.std.specs.Prelude.{◌≡◌, ℕ, ◌/◌, ◌<◌, length, Some};
 ghost use Rattle.std.specs.Fmt.{WritesOnOk};
 ghost use Rattle.recordings.specs.declared.entries.ChannelEntry.{ChannelEntry};
 ghost use Rattle.recordings.specs.Contents.{entries_of, rows_of};
@@ -13,16 +13,15 @@ const DARK: u32 = u32::MAX;
 
 /// A number of a row.
 #[derive(Clone, Copy)]
-struct Word(Option<u32>);
+struct Word(u32);
 
 impl fmt::Display for Word {
-    ghost output = { λ x. Some (word_of x.0) };
+    ghost output = { λ x. Some (word_of (Some x.0)) };
 
     fn fmt<W: fmt::Write>(&self, f: &mut fmt::Formatter<W>) -> fmt::Result {
         match self.0 {
-            None => Ok(()),
-            Some(DARK) => f.write_str("-"),
-            Some(number) => write!(f, "{number}"),
+            DARK => f.write_str("-"),
+            number => write!(f, "{number}"),
         }
     }
 }
@@ -39,16 +38,16 @@ fn gap(channel: usize) -> &'static str
 struct Row<'a> {
     recording: Recording<'a>,
     row: usize,
+    ghost there: { row < length (rows_of recording) / length (entries_of recording) },
 }
 
 impl fmt::Display for Row<'_> {
     ghost output = { λ x. Some (cells (rows_of x.recording) (length (entries_of x.recording)) x.row (length (entries_of x.recording))) };
 
     fn fmt<W: fmt::Write>(&self, f: &mut fmt::Formatter<W>) -> fmt::Result {
-        // By number, which tells the gap too: a recording has no slice of a row.
-        for channel in 0..self.recording.channel_count() {
+        for (channel, number) in self.recording.row(self.row).enumerate() {
             let gap = gap(channel);
-            let word = Word(self.recording.number(self.row, channel));
+            let word = Word(number);
             write!(f, "{gap}{word}")?;
         }
         Ok(())
@@ -63,7 +62,7 @@ impl fmt::Display for Rows<'_> {
     ghost output = { λ x. Some (row_lines (rows_of x.0) (length (entries_of x.0)) (length (rows_of x.0) / length (entries_of x.0))) };
 
     fn fmt<W: fmt::Write>(&self, f: &mut fmt::Formatter<W>) -> fmt::Result {
-        // By number, which is what a row is made of: a recording has no slice of rows.
+        // By number, by which a recording gives a row.
         for row in 0..self.0.row_count() {
             let line = Row {
                 recording: self.0,
@@ -84,11 +83,8 @@ fn write_figures<W: fmt::Write, F: Fn(ChannelEntry) -> u32>(
     requires { F.IsAlwaysCallable figure }
     ensures { (figure_of : ChannelEntry → ℕ) → ((e : ChannelEntry) (n : ℕ) → F.post figure e n → n ≡ figure_of e) → WritesOnOk W.write_str_gives f.old result (figure_words figure_of (entries_of recording.now)) f.new }
 {
-    // By number: over a chain of entries the check makes an ill-typed statement of this loop, which has type parameters.
-    for channel in 0..recording.channel_count() {
-        if let Some(entry) = recording.entry(channel) {
-            write!(f, " {}", figure(entry))?;
-        }
+    for entry in recording.entries() {
+        write!(f, " {}", figure(entry))?;
     }
     Ok(())
 }
@@ -106,6 +102,7 @@ impl fmt::Display for Moduli<'_> {
 }
 
 /// The bounds of a recording, each after a space.
+// A type beside the one of the moduli, so that each has its text; the function is one.
 #[derive(Clone, Copy)]
 pub(crate) struct Bounds<'a>(pub(crate) Recording<'a>);
 

@@ -33,7 +33,7 @@ fn main(rt: HostRuntime) -> ExitCode {
 #[cfg(test)]
 mod tests {
     use super::*;
-    use sheets::Sheet;
+    use sheets::{Sheet, recorded};
     use std::test::Fail;
 
     // A recording is printed as the table it was made from.
@@ -54,6 +54,22 @@ mod tests {
             printed(heap, bytes.as_slice())?.as_str(),
             "note rail 4\nmoduli 30 40\nbounds 2 0\n19 -\n"
         );
+        Ok(())
+    }
+
+    // A text is recorded, and its recording is printed as the same text.
+    #[test]
+    fn whole_tables_come_back(rt: HostRuntime) -> Result<(), Fail> {
+        let heap = rt.alloc();
+        let tables = [
+            "moduli 30 40\nbounds 2 0\n",
+            "note  two spaces before, one behind \nmoduli 30\nbounds 2\n-\n29\n-\n",
+            "moduli 9 9 9 9 9 9 9 9\nbounds 2 1 0 2 1 0 2 1\n- 1 2 3 4 5 6 -\n0 0 0 0 0 0 0 4294967294\n",
+        ];
+        for table in tables {
+            let bytes = recorded(heap, table.as_bytes())?;
+            assert_eq!(rt; printed(heap, bytes.as_slice())?.as_str(), table);
+        }
         Ok(())
     }
 

@@ -10,6 +10,7 @@ use settings::{Setting, SettingRefusal};
 pub struct Desk {
     pub(crate) heading: Heading,
     pub(crate) numbers: Vec<u32>,
+    // Moduli and bounds are two lists, since they stand in two lines, either of which may come first.
     pub(crate) moduli: Vec<u32>,
     pub(crate) bounds: Vec<u32>,
     pub(crate) setting: Option<Result<Setting, SettingRefusal>>,

@@ -3,10 +3,11 @@
 
 use anyhow::anyhow;
 use programs::{Program, serve};
+use records::Fault;
 use std::alloc::Global;
 use std::io::{BufRead, BufReader, BufWriter, Write};
 use std::process::ExitCode;
-use tables::{BadText, Desk, Reply, refusal_line, row_line};
+use tables::{BadText, Desk, Reply, row_line};
 
 /// The report of a line with bad text.
 fn at_line(number: u64, bad: BadText) -> anyhow::Error {
@@ -30,7 +31,7 @@ fn read_table<B: BufRead + Drop, W: Write>(
             Reply::Nothing => {}
             Reply::Row(row) => writeln!(out, "{}", row_line(heap, row)?)?,
             Reply::Refused(refusal) => {
-                writeln!(out, "{}", refusal_line(heap, refusal.into())?)?;
+                writeln!(out, "{}", Fault::from(refusal))?;
                 return Ok(());
             }
         }

@@ -42,6 +42,7 @@ impl<T: Copy + Default> Few<T> {
         requires { length (items self.old) < 8 }
         ensures { items self.new ≡ items self.old ++ item ∷ [] }
     {
+        // By place: the list is in place and has no heap to grow on.
         self.places[self.count] = item;
         self.count += 1;
     }

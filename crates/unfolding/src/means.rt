@@ -10,6 +10,7 @@ pub(crate) fn rounded(unfolded: &[i64]) -> i64
     requires moderate { Moderate unfolded.now }
     ensures { result ≡ int_div_euclid (pos 2 *ℤ total (length unfolded.now) (λ k. slice_index_or unfolded.now k (pos 0)) +ℤ pos (length unfolded.now)) (pos (2 * length unfolded.now)) }
 {
+    // A loop and no `sum`: of signed numbers the library proves no bound of it.
     let mut sum = 0;
     for &reading in unfolded {
         sum += reading;

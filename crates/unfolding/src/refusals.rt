@@ -49,12 +49,12 @@ impl From<UnfoldRefusal> for Fault {
                 channel,
                 quadruple,
                 unit,
-            } => (15, channel, quadruple, unit as u64),
+            } => (15, channel, quadruple, u64::from(unit)),
             UnfoldRefusal::Wild {
                 channel,
                 reading,
                 modulus,
-            } => (25, channel, reading as u64, modulus as u64),
+            } => (25, channel, u64::from(reading), u64::from(modulus)),
             UnfoldRefusal::Contradictory { low, excess, high } => (16, low, excess, high as u64),
         };
         Fault {

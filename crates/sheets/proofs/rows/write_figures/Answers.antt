@@ -1,25 +1,20 @@
-use Rattle.std.proofs.Common.{is_ok, ap, ◌∙◌, unwrap_or, arith}
-use Rattle.std.specs.Option.{option_map}
+use Rattle.std.proofs.Common.{◌++◌, is_ok, sym, ap, ◌∙◌}
 use Rattle.std.proofs.Output.{has_written_append, has_written_of_eq}
-use Rattle.recordings.specs.Contents.{entries_of}
-use Rattle.std.proofs.lemmas.Option.{slice_get-get_or}
-use Rattle.sheets.proofs.Texts.{figure_more, figure_all, none}
+use Rattle.std.proofs.lemmas.List.{append_assoc, append-nil}
+use Rattle.sheets.specs.Rows.{figure_words}
+use Rattle.sheets.proofs.Texts.{figure_more}
 use Rattle.sheets.proofs.rows.write_figures.Goals as goal
-use Rattle.sheets.proofs.rows.write_figures.Goals.{in-Some+in_ok-write, in_default}
 
-pub loop-channel-preserved : goal.loop-channel-preserved
-loop-channel-preserved g c =
-    λ figure_of picks plain.
-    let so = c.loop-channel.invariant figure_of picks plain in
-    elim c.match-entry.branch [
-      | in-Some+in_ok-write w ↦
-          let n = picks w.in-Some.entry w.figure.result w.figure.ensures ∙ ap (λ o. unwrap_or (option_map figure_of o) 0) w.in-Some.ensures in
-          rw w.f-is (has_written_of_eq g.W.Write.write_str_gives _ _ _ _ (figure_more figure_of (entries_of c.args.recording.now) c.loop-channel.channel _ (omega (arith, c.channel_count-channel-end.ensures)) n)
-          (has_written_append g.W.Write.write_str_gives _ _ _ _ _ so (w.write.ensures.writes so.plain (ap is_ok w.in_ok-write.was))))
-      | in_default w ↦ absurd (w.in_default.not-Some _ (c.entry.ensures ∙ slice_get-get_or (entries_of c.args.recording.now) c.loop-channel.channel none (omega (arith, c.channel_count-channel-end.ensures))))
-    ]
+pub loop-entry-preserved : goal.loop-entry-preserved
+loop-entry-preserved g c = record {
+  left = append_assoc c.loop-entry.yielded _ _ ∙ ap (λ z. c.loop-entry.yielded ++ z) (sym c.in-Some.ensures.steps) ∙ c.loop-entry.invariant.left;
+  wrote = λ figure_of picks plain.
+      let so = c.loop-entry.invariant.wrote figure_of picks plain in
+      has_written_of_eq g.W.Write.write_str_gives _ _ _ _ (figure_more figure_of c.loop-entry.yielded c.in-Some.entry _ (picks _ _ c.figure.ensures))
+      (has_written_append g.W.Write.write_str_gives _ _ _ _ _ so (c.write.ensures.writes so.plain (ap is_ok c.in_ok-write.was)));
+}
 
 pub returns : goal.returns
 returns g c =
-    λ figure_of picks plain ok.
-    has_written_of_eq g.W.Write.write_str_gives _ _ _ _ (figure_all figure_of (entries_of c.args.recording.now) c.loop-channel.channel (omega (arith, c.channel_count-channel-end.ensures))) (c.loop-channel.invariant figure_of picks plain)
+    let all = sym (append-nil c.loop-entry.yielded) ∙ ap (λ z. c.loop-entry.yielded ++ z) (sym c.in-None.ensures.steps.0) ∙ c.loop-entry.invariant.left in
+    λ figure_of picks plain ok. has_written_of_eq g.W.Write.write_str_gives _ _ _ _ (ap (figure_words figure_of) all) (c.loop-entry.invariant.wrote figure_of picks plain)

@@ -1,6 +1,7 @@
 use Rattle.std.proofs.Common.{◌≡◌, ◌+◌, ◌*◌, ◌++◌, length, drop, sym, refl, ap, ◌∙◌, arith}
 use Rattle.std.specs.List.{flat_map}
-use Rattle.std.proofs.lemmas.List.Concat.{flat_map-append}
+use Rattle.std.proofs.lemmas.List.{map-id}
+use Rattle.std.proofs.lemmas.List.Concat.{flat_map-append, flat_map_single}
 use Rattle.recordings.specs.Layout.{ending, pair_of}
 use Rattle.recordings.specs.Numbers.{bytes_of}
 use Rattle.recordings.proofs.Words.{length_bytes}
@@ -24,5 +25,6 @@ returns c =
     let j : flat_map bytes_of xs ++ (flat_map bytes_of ps ++ flat_map bytes_of ws) ≡ flat_map bytes_of (xs ++ (ps ++ ws)) =
     ap (λ z. flat_map bytes_of xs ++ z) (sym (flat_map-append bytes_of ps ws)) ∙ sym (flat_map-append bytes_of xs (ps ++ ws)) in
     let whole = t ∙ ap (λ z. (note ++ z) ++ drop (length note + 4 * length xs + 8 * length es + 16) out) j in
-    let entries = c.put_each-2.ensures ∙ joined_twice bytes_of pair_of es in
-    record { end = refl; after = simp (c.ending_of-ending.ensures, c.copy_from_slice.ensures.after, c.put_each.ensures, entries, c.put_each-3.ensures) whole }
+    let first = c.put_each.ensures ∙ flat_map_single (λ b. b) note ∙ map-id note in
+    let entries = c.put_each-3.ensures ∙ joined_twice bytes_of pair_of es in
+    record { end = refl; after = simp (c.ending_of-ending.ensures, first, c.put_each-2.ensures, entries, c.put_each-4.ensures) whole }
