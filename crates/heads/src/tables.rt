@@ -21,6 +21,7 @@ pub struct PhaseTable<'a> {
 pub fn phase_reading(modulus: u32, number: u32) -> Result<u32, HeadFault>
     ensures { result ≡ answered (entry_of modulus number) }
 {
+    // The number that tables and recordings have for a channel without a signal, by their format.
     if number == 4294967295 {
         Err(HeadFault::Dark {
             depth: 0,

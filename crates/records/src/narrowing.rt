@@ -58,6 +58,7 @@ fn is_alike<T, O: Order<T>>(order: &O, a: &T, b: &T) -> bool
 }
 
 /// The first place of an item equal in the order to the one at `p`.
+// `order` and `items` are two parameters here and below, as the public calls have them, whose signatures stay.
 fn first_equal<T, O: Order<T>>(order: &O, items: &[T], p: usize) -> usize
     requires { p < length items.now }
     ensures { FirstEqual O.Order.lesser items.now p result }
