@@ -4,28 +4,35 @@
 use anyhow::anyhow;
 use programs::{Program, serve};
 use records::Fault;
-use sheets::{BadLine, NotRecorded, RecordError, recorded};
+use sheets::{BadLine, NotRecorded, RecordError, Unrecorded, recorded_from};
 use std::alloc::Global;
-use std::io::{Read, Write};
+use std::io::{BufRead, BufReader, Write};
 use std::process::ExitCode;
 
 /// The report of a table that is not recorded.
 // A bad line has the program's name before it, which `unfold` leaves to the prefix of its errors: the line of a refusal stands alone.
-fn report(error: NotRecorded) -> anyhow::Error {
+fn report(error: Unrecorded) -> anyhow::Error {
     match error {
-        NotRecorded::Line(BadLine { line, bad }) => anyhow!("record: line {line}: {bad}"),
-        NotRecorded::Unwritten(RecordError::NoMemory) => anyhow!("record: out of memory"),
-        NotRecorded::Unwritten(RecordError::Refused(refusal)) => {
+        Unrecorded::Unread(e) => e.into(),
+        Unrecorded::Unmade(NotRecorded::Line(BadLine { line, bad })) => {
+            anyhow!("record: line {line}: {bad}")
+        }
+        Unrecorded::Unmade(NotRecorded::Unwritten(RecordError::NoMemory)) => {
+            anyhow!("record: out of memory")
+        }
+        Unrecorded::Unmade(NotRecorded::Unwritten(RecordError::Refused(refusal))) => {
             anyhow!("{}", Fault::from(refusal))
         }
     }
 }
 
-/// Reads a table, and writes its recording, or nothing if there is none.
-fn record_table<R: Read, W: Write>(heap: Global, input: &mut R, out: &mut W) -> anyhow::Result<()> {
-    let mut text = Vec::new(heap);
-    input.read_to_end(&mut text)?;
-    let bytes = recorded(heap, text.as_slice()).map_err(report)?;
+/// Reads a table line by line, and writes its recording, or nothing if there is none.
+fn record_table<B: BufRead + Drop, W: Write>(
+    heap: Global,
+    input: B,
+    out: &mut W,
+) -> anyhow::Result<()> {
+    let bytes = recorded_from(heap, input).map_err(report)?;
     out.write_all(bytes.as_slice())?;
     out.flush()?;
     Ok(())
@@ -47,7 +54,8 @@ and then, as with bad text, nothing is written and the status is 1.
 ";
 
     fn job(rt: &HostRuntime) -> anyhow::Result<()> {
-        record_table(rt.alloc(), &mut rt.stdin(), &mut rt.stdout())
+        let input = BufReader::new(rt.alloc(), rt.stdin())?;
+        record_table(rt.alloc(), input, &mut rt.stdout())
     }
 }
 
@@ -63,7 +71,7 @@ mod tests {
     // What is reported of a table that is not recorded, and that nothing is written then.
     fn reported(heap: Global, table: &[u8]) -> Result<String, Fail> {
         let mut out: Vec<u8> = Vec::new(heap);
-        let Err(e) = record_table(heap, &mut &*table, &mut out) else {
+        let Err(e) = record_table(heap, table, &mut out) else {
             return Err(Fail::new("recorded"));
         };
         if !out.is_empty() {
@@ -77,7 +85,7 @@ mod tests {
         let mut out = Vec::new(rt.alloc());
         record_table(
             rt.alloc(),
-            &mut b"moduli 30 40\nbounds 2 0\n19 -".as_slice(),
+            b"moduli 30 40\nbounds 2 0\n19 -".as_slice(),
             &mut out,
         )?;
         assert_eq!(rt;

@@ -2,4 +2,5 @@ mod Returning
 mod Texts
 mod Writing
 mod Feeds
+mod Pieces
 mod Coming

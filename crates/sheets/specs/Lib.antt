@@ -6,3 +6,4 @@ pub mod Rows
 pub mod Printing
 pub mod Headings
 pub mod Whole
+pub mod Reading

@@ -6,6 +6,7 @@ mod lines;
 mod making;
 mod notes;
 mod printing;
+mod reading;
 mod rows;
 mod whole;
 
@@ -13,4 +14,5 @@ pub use errors::BadSheet;
 pub use lines::Sheet;
 pub use making::RecordError;
 pub use printing::printed;
+pub use reading::{Unrecorded, recorded_from};
 pub use whole::{BadLine, NotRecorded, recorded};

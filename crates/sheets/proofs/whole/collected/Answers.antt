@@ -1,4 +1,4 @@
-use Rattle.std.proofs.Common.{◌≡◌, ◌+◌, length, Err, rules, subst, arith}
+use Rattle.std.proofs.Common.{◌≡◌, Err, rules, subst, arith}
 use Rattle.sheets.proofs.Coming.{Ends, Numbered, Steps, ended, no_lines, step}
 use Rattle.sheets.proofs.whole.collected.Goals as goal
 

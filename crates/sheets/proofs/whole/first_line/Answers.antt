@@ -1,10 +1,8 @@
-use Rattle.std.proofs.Common.{◌≡◌, ◌+◌, suc, ◌∷◌, length, take, drop, rules, tests, refl, ap, ◌∙◌, arith}
+use Rattle.std.proofs.Common.{◌≡◌, ◌+◌, length, drop, rules, tests, refl, ap, ◌∙◌, arith}
 use Rattle.std.proofs.lemmas.Iterator.{YieldsList-from_slice}
 use Rattle.std.proofs.lemmas.Iterator.Search.{position_from_yields_List}
-use Rattle.std.specs.List.{position_or_len}
 use Rattle.std.specs.Option.{unwrap_or}
 use Rattle.sheets.proofs.Feeds.{first_feed, from_there, is_feed, line_cut}
-use Rattle.sheets.specs.Whole.{lines_of}
 use Rattle.sheets.proofs.whole.first_line.Goals as goal
 
 pub returns-clause-cut : goal.returns-clause-cut
