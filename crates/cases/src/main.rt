@@ -124,6 +124,11 @@ fn read_remainder(text: &[u8]) -> Option<(u64, usize)> {
     words.next().is_none().then_some((position, channel))
 }
 
+/// Whether a line begins a unit case.
+fn begins_unit(text: &[u8]) -> bool {
+    matches!(first_word(text), Some((b"unit", _)))
+}
+
 /// The setting that the line which begins a unit case makes.
 fn unit_line(heap: Global, text: &[u8]) -> Result<Setting, End> {
     let mut factors = Vec::new(heap);
@@ -158,21 +163,26 @@ impl Case {
         }
     }
 
+    /// Whether nothing more is told of the case.
+    fn is_done(&self) -> bool {
+        matches!(self.stage, Stage::Done)
+    }
+
     /// What the next line of the case tells, if anything.
     fn line(&mut self, heap: Global, text: &[u8]) -> Result<Option<Told>, End> {
         self.lines = self.lines.saturating_add(1);
         if part_of(text) == Part::Passed {
             return Ok(None);
         }
-        match (self.stage, first_word(text)) {
-            (Stage::Done, _) => Ok(None),
-            (Stage::Unit(setting), _) => remainder_line(&setting, text).map(Some),
-            (Stage::Fresh, Some((b"unit", _))) => {
+        match self.stage {
+            Stage::Done => Ok(None),
+            Stage::Unit(setting) => remainder_line(&setting, text).map(Some),
+            Stage::Fresh if begins_unit(text) => {
                 let setting = unit_line(heap, text)?;
                 self.stage = Stage::Unit(setting);
                 Ok(Some(Told::Setting(setting)))
             }
-            (Stage::Fresh | Stage::Table, _) => {
+            Stage::Fresh | Stage::Table => {
                 self.stage = Stage::Table;
                 table_line(&mut self.desk, self.lines, text)
             }
@@ -202,6 +212,9 @@ fn main(rt: HostRuntime) -> io::Result<()> {
             case.end().or_else(|end| rt.println(end))?;
             case = Case::new(heap);
             rt.println(str::from_utf8(text).unwrap_or("== ?"))?;
+            continue;
+        }
+        if case.is_done() {
             continue;
         }
         match case.line(heap, text) {

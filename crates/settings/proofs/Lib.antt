@@ -1,6 +1,6 @@
 pub mod Coprimes
 pub mod Mapped
-pub mod Turned
+pub mod Filled
 pub mod Ranges
 pub mod Placed
 pub mod Splits

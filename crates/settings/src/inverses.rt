@@ -1,9 +1,9 @@
 // The inverses that a setting keeps, which factors that share a divisor lack.
-ghost use Rattle.std.specs.Prelude.{[], ℕ, ◌<◌, ◌≡◌, ◌≢◌, length, slice_index, slice_index_or, IfErr, IfOk, MatchResult};
+ghost use Rattle.std.specs.Prelude.{◌<◌, ◌≢◌, length, suc, IfErr, IfOk, MatchResult};
 ghost use Rattle.residues.specs.Divisors.{Greatest};
 ghost use Rattle.residues.specs.Products.{PairwiseCoprime};
 ghost use Rattle.settings.specs.Refusals.{TellsShared};
-ghost use Rattle.settings.specs.Tables.{ColumnMade, InverseFor, InversesMade, TellsColumn, TellsPair};
+ghost use Rattle.settings.specs.Tables.{InversesMade, RowsOfEight};
 ghost use Rattle.settings.specs.Told.{Inverse};
 
 use crate::SettingRefusal;
@@ -22,22 +22,6 @@ fn inverse_of(first: u32, second: u32) -> Result<u32, Shared>
     }
 }
 
-/// The columns as rows.
-fn turned(columns: [[u32; 8]; 8]) -> [[u32; 8]; 8]
-    ensures { (j k : ℕ) → j < 8 → k < 8 → slice_index (slice_index_or result k []) j ≡ slice_index (slice_index_or columns j []) k }
-{
-    let mut rows = [[0; 8]; 8];
-    for (place, row) in rows.iter_mut().enumerate() {
-        *row = columns.map(
-            move |column|
-                requires { place < 8 }
-                ensures { result ≡ slice_index column place }
-            { column[place] },
-        );
-    }
-    rows
-}
-
 impl Candidate<'_> {
     /// In row k the inverse of each earlier factor modulo factor k, or the first
     /// pair that shares a divisor: pairs go by the first channel, then by the second.
@@ -46,38 +30,32 @@ impl Candidate<'_> {
         ensures coprime { IfOk result (λ _. PairwiseCoprime self.now.factors.now) }
         ensures shared { IfErr result (TellsShared self.now.factors.now) }
     {
-        let mut columns = [[0; 8]; 8];
-        for (first, column) in columns.iter_mut().enumerate() {
-            *column = self.column(first)?;
+        let mut inverses = [[0; 8]; 8];
+        for first in 0..self.factors.len() {
+            self.invert(first, &mut inverses)?;
         }
-        Ok(turned(columns))
+        Ok(inverses)
     }
 
-    /// The inverse of one factor modulo each later factor, at that factor's place.
-    fn column(&self, first: usize) -> Result<[u32; 8], SettingRefusal>
-        ensures { MatchResult result (ColumnMade self.now.factors.now first) (TellsColumn self.now.factors.now first) }
+    /// The inverse of one factor modulo each later factor, put into the later factor's row.
+    // By the numbers of the two channels: a refusal tells them, and they are the places in the table.
+    fn invert(&self, first: usize, inverses: &mut [[u32; 8]; 8]) -> Result<(), SettingRefusal>
+        requires within { first < length self.now.factors.now }
+        requires rows { RowsOfEight inverses.old }
+        requires made { InversesMade self.now.factors.now inverses.old first }
+        ensures rows { RowsOfEight inverses.new }
+        ensures told { MatchResult result (λ _. InversesMade self.now.factors.now inverses.new (suc first)) (TellsShared self.now.factors.now) }
     {
-        let mut column = [0; 8];
-        for (second, place) in column.iter_mut().enumerate() {
-            *place = self.inverse(first, second)?;
-        }
-        Ok(column)
-    }
-
-    /// The inverse of one factor modulo a later factor; 0 where the second channel is no later one.
-    // By the numbers of the two channels, since a refusal tells them, and tells the lowest pair.
-    fn inverse(&self, first: usize, second: usize) -> Result<u32, SettingRefusal>
-        ensures { MatchResult result (InverseFor self.now.factors.now first second) (TellsPair self.now.factors.now first second) }
-    {
-        if second <= first || second >= self.factors.len() {
-            return Ok(0);
-        }
-        inverse_of(self.factors[first], self.factors[second]).map_err(|shared| {
-            SettingRefusal::SharedDivisor {
-                first,
-                second,
-                divisor: shared.divisor,
+        for second in first + 1..self.factors.len() {
+            match inverse_of(self.factors[first], self.factors[second]) {
+                Ok(inverse) => inverses[second][first] = inverse,
+                Err(shared) => return Err(SettingRefusal::SharedDivisor {
+                    first,
+                    second,
+                    divisor: shared.divisor,
+                }),
             }
-        })
+        }
+        Ok(())
     }
 }

@@ -1,12 +1,13 @@
 -- What `number_in` answers at a word, and at the digits of a number. Assumes nothing.
-use Rattle.std.proofs.Common.{◌≡◌, ℕ, ◌^◌, ◌<◌, ◌≤◌, Bool, true, false, ◌&&◌, List, [], ◌∷◌, length, Ok, Err, decimal, Result, MatchResult, OkIff, sym, refl, ap, ◌∙◌, arith, le-ltb, lt-ltb}
-use Rattle.std.proofs.lemmas.Fmt.{IsAscii-from_digits, decimal_nonempty, digits_decimal, digits_value-decimal}
-use Rattle.std.proofs.lemmas.Str.{IsUtf8-from_ascii}
-use Rattle.std.proofs.lemmas.Str.Parse.{IsNumeralModel, numerals_by_value, parse_digits, tells_all_ascii_digits}
-use Rattle.std.specs.Char.{is_ascii_digit}
-use Rattle.std.specs.List.{list_all}
-use Rattle.std.specs.Str.Parse.{AllDigits, ParsesUnsigned, digits_value}
-use Rattle.std.specs.Str.{IsUtf8, all_ascii_digits}
+use Rattle.std.proofs.Common.{◌≡◌, ℕ, ◌+◌, ◌-◌, ◌*◌, ◌^◌, ◌<◌, ◌≤◌, min, Bool, true, false, List, [], ◌∷◌, length, get_or, take, Ok, Err, decimal, Result, sym, refl, ap, ◌∙◌, subst, arith, le-ltb, lt-ltb}
+use Rattle.std.proofs.lemmas.Fmt.{decimal_nonempty, digits_decimal, digits_value-decimal}
+use Rattle.std.proofs.lemmas.Int.Digits.{digits_value_more}
+use Rattle.std.proofs.lemmas.List.{take_all}
+use Rattle.std.proofs.lemmas.Str.Parse.{IsNumeralModel, numerals_by_value, tells_all_ascii_digits, digit_at}
+use Rattle.std.proofs.lemmas.Str.{digit_value_digit}
+use Rattle.std.specs.Str.Parse.{AllDigits, digits_value}
+use Rattle.std.specs.Int.{IsInRange}
+use Rattle.std.specs.Str.{all_ascii_digits}
 use Rattle.tables.specs.declared.numerals.NoNumber.{NoNumber}
 use Rattle.tables.specs.declared.numerals.NoNumber.TheVariants.{NotDigits, TooLarge}
 use Rattle.tables.specs.Numerals.{number_in}
@@ -30,36 +31,42 @@ pub at_other : (w : List ℕ) → (AllDigits 10 w → ⊥) → number_in w ≡ E
 at_other [] no-digits = refl
 at_other (b ∷ bs) no-digits = rw (false_from (all_ascii_digits (b ∷ bs)) (λ e. no-digits (own.to (b ∷ bs) e))) refl
 
+-- a byte that is no digit
+pub stray : (w : List ℕ) (i : ℕ) → i < length w → (IsInRange 48 57 (get_or w i 0) → ⊥) → AllDigits 10 w → ⊥
+stray w i lt out ds = out (digit_at w i ds lt)
+
 pub at_decimal : (w : List ℕ) (n : ℕ) → n < 2 ^ 32 → w ≡ decimal n → number_in w ≡ Ok n
 at_decimal w n small e =
     let big : n < 2 ^ 64 = omega arith in
     let is : digits_value 10 (decimal n) ≡ n = digits_value-decimal own n big in
     ap number_in e ∙ at_number (decimal n) (decimal_nonempty n big) (own.to _ (digits_decimal own n big)) (omega (arith, is)) ∙ ap Ok is
 
+-- one digit more, capped
+pub capped_more : (w : List ℕ) (i n : ℕ) → i < length w → IsInRange 48 57 (get_or w i 0) → n ≡ min (digits_value 10 (take i w)) (2 ^ 32) → min (n * 10 + (get_or w i 0 - 48)) (2 ^ 32) ≡ min (digits_value 10 (take (i + 1) w)) (2 ^ 32)
+capped_more w i n lt digit so =
+    let next = digits_value_more 10 w i lt in
+    let is = digit_value_digit (get_or w i 0) digit in
+    omega (arith, next, is, so, digit)
+
 pub reads_back : {w : List ℕ} {r : Result ℕ NoNumber} → r ≡ number_in w → (n : ℕ) → n < 2 ^ 32 → w ≡ decimal n → r ≡ Ok n
 reads_back {w} is n small e = is ∙ at_decimal w n small e
 
--- digits alone are text
-pub text_of : (w : List ℕ) → AllDigits 10 w → IsUtf8 w
-text_of w ds = IsUtf8-from_ascii w (IsAscii-from_digits w ds)
+-- all digits read, and n their value, capped
+module _ (w : List ℕ) (i n : ℕ) (all : length w ≤ i) (ds : AllDigits 10 (take i w)) (so : n ≡ min (digits_value 10 (take i w)) (2 ^ 32)) (some : length w ≡ 0 → ⊥) where
+  whole : take i w ≡ w
+  whole = take_all i w all
 
-pub all_digits : (w : List ℕ) → list_all is_ascii_digit w ≡ all_ascii_digits w
-all_digits [] = refl
-all_digits (b ∷ bs) = ap (λ t. is_ascii_digit b && t) (all_digits bs)
+  fill : 0 < length w
+  fill = omega (arith, some)
 
-pub at_empty : (w : List ℕ) → length w ≡ 0 → number_in w ≡ Err NotDigits
-at_empty [] e = refl
-at_empty (b ∷ bs) e = absurd (omega arith)
+  pub ends_large : n ≡ 2 ^ 32 → Err TooLarge ≡ number_in w
+  ends_large e = sym (at_large w fill (subst (AllDigits 10) whole ds) (omega (arith, so, ap (digits_value 10) whole)))
 
-pub at_stray : (w : List ℕ) → all_ascii_digits w ≡ false → number_in w ≡ Err NotDigits
-at_stray w e = at_other w (λ ds. let t : all_ascii_digits w ≡ true = own.from w ds in cc)
+  pub ends_number : (n ≡ 2 ^ 32 → ⊥) → Ok n ≡ number_in w
+  ends_number e =
+      let is : n ≡ digits_value 10 w = omega (arith, so, ap (digits_value 10) whole, e) in
+      ap Ok is ∙ sym (at_number w fill (subst (AllDigits 10) whole ds) (omega (arith, so, ap (digits_value 10) whole, e)))
 
--- what `parse` answers at digits, with each of its errors taken for a number that is too large
-pub at_digits : {E : Type 0} (w : List ℕ) (r : Result ℕ E) (q : Result ℕ NoNumber) → 0 < length w → all_ascii_digits w ≡ true → ParsesUnsigned 32 10 w r → MatchResult r (λ x. q ≡ Ok x) (λ _. q ≡ Err TooLarge) → q ≡ number_in w
-at_digits w r q some ds h said = by r (parse_digits own 32 w r h ds) said
-  where
-    by : {E : Type 0} (r : Result ℕ E) → OkIff r ((0 < length w) × (digits_value 10 w < 2 ^ 32)) (digits_value 10 w) → MatchResult r (λ x. q ≡ Ok x) (λ _. q ≡ Err TooLarge) → q ≡ number_in w
-    by (Ok x) (fits, is) said = said ∙ ap Ok is ∙ sym (at_number w some (own.to w ds) fits.1)
-    by (Err x) none said =
-        let out : digits_value 10 w < 2 ^ 32 → ⊥ = λ lt. none (some, lt) in
-        said ∙ sym (at_large w some (own.to w ds) (omega (arith, out)))
+pub empty_word : (w : List ℕ) → length w ≡ 0 → Err NotDigits ≡ number_in w
+empty_word [] e = refl
+empty_word (b ∷ bs) e = absurd (omega arith)

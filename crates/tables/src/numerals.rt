@@ -2,8 +2,6 @@
 ghost use Rattle.std.specs.Prelude.{◌≡◌, ℕ, ◌^◌, ◌<◌, Ok, decimal};
 ghost use Rattle.tables.specs.Numerals.{number_in};
 
-use std::str;
-
 /// Why a word is no number.
 #[derive(Clone, Copy, PartialEq, Eq, Debug)]
 pub enum NoNumber {
@@ -11,16 +9,25 @@ pub enum NoNumber {
     TooLarge,
 }
 
+const LIMIT: u64 = 4294967296;
+
 /// The number that a word writes in decimal digits.
 pub fn number(word: &[u8]) -> Result<u32, NoNumber>
     ensures value { result ≡ number_in word.now }
     ensures reads_back { (n : ℕ) → n < 2 ^ 32 → word.now ≡ decimal n → result ≡ Ok n }
 {
-    let Ok(text) = str::from_utf8(word) else {
-        return Err(NoNumber::NotDigits);
-    };
-    if text.is_empty() || !text.bytes().all(|b| b.is_ascii_digit()) {
-        return Err(NoNumber::NotDigits);
+    let mut n: u64 = 0;
+    for b in word {
+        if !b.is_ascii_digit() {
+            return Err(NoNumber::NotDigits);
+        }
+        n = (n * 10 + u64::from(*b - b'0')).min(LIMIT);
     }
-    text.parse::<u32>().map_err(|_| NoNumber::TooLarge)
+    if word.is_empty() {
+        Err(NoNumber::NotDigits)
+    } else if n == LIMIT {
+        Err(NoNumber::TooLarge)
+    } else {
+        Ok(n as u32)
+    }
 }
