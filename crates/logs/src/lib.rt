@@ -17,7 +17,7 @@ pub use slots::Slot;
 #[cfg(test)]
 mod tests {
     use super::*;
-    use records::{Ascending, Fault, Fix, InTurn, middle};
+    use records::{Fault, Fix, InTurn, OwnOrder, middle};
     use std::test::Fail;
 
     fn fix(start: u64, count: u64, mean: u64) -> Fix {
@@ -65,8 +65,8 @@ mod tests {
     #[test]
     fn pairs_go_by_their_parts_in_turn(rt: HostRuntime) -> Result<(), Fail> {
         let by_both = InTurn {
-            first: Ascending,
-            second: Ascending,
+            first: OwnOrder,
+            second: OwnOrder,
         };
         let pairs = [(437u64, 2u8), (436, 4), (437, 1)];
         assert_eq!(rt; middle(&by_both, &pairs), Some(2));

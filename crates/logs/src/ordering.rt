@@ -3,7 +3,7 @@ ghost use Rattle.std.specs.Prelude.{◌≡◌, Decides};
 ghost use Rattle.logs.specs.FixOrder.{Before, fix_key, fix_lesser};
 ghost use Rattle.logs.specs.FixOrderLaws.{fix_total};
 
-use records::{Fix, Order};
+use records::{Fix, InTurn, Order, OwnOrder};
 
 /// What a fix is ordered by.
 fn key(fix: &Fix) -> (u64, u64)
@@ -26,6 +26,10 @@ impl Order<Fix> for ByMean {
         ensures answers { result ≡ fix_lesser a.now b.now }
         ensures decides { Decides result (Before a.now b.now) }
     {
-        key(a) < key(b)
+        let by_key = InTurn {
+            first: OwnOrder,
+            second: OwnOrder,
+        };
+        by_key.is_less(&key(a), &key(b))
     }
 }

@@ -13,4 +13,4 @@ pub use faults::Fault;
 pub use fixes::Fix;
 pub use middles::middle_of_few;
 pub use narrowing::middle_of_many;
-pub use orders::{Ascending, InTurn, Order, compared};
+pub use orders::{Ascending, InTurn, Order, OwnOrder, compared};

@@ -1,7 +1,7 @@
 // Orders: which of two items is the lesser, told by a value, so that one type may have several.
-ghost use Rattle.std.specs.Prelude.{◌≡◌, Bool};
+ghost use Rattle.std.specs.Prelude.{◌≡◌, Bool, int_lt};
 ghost use Rattle.records.specs.Orders.{Compares, Total, in_turn, lesser_by};
-ghost use Rattle.records.specs.OrderLaws.{in_turn_total, lesser_by_total};
+ghost use Rattle.records.specs.OrderLaws.{in_turn_total, lesser_by_total, whole_total};
 
 use std::cmp::Ordering;
 
@@ -30,11 +30,26 @@ pub fn compared<T, O: Order<T>>(order: &O, a: &T, b: &T) -> Ordering
     }
 }
 
-/// Items from the least up, as their own type orders them.
+/// Whole numbers from the least up.
+// For one type alone, so that a call with it says of which type its numbers are.
 #[derive(Clone, Copy, Drop)]
 pub struct Ascending;
 
-impl<T: Ord> Order<T> for Ascending {
+impl Order<i64> for Ascending {
+    ghost lesser = { int_lt };
+
+    ghost laws = { whole_total };
+
+    fn is_less(&self, a: &i64, b: &i64) -> bool {
+        *a < *b
+    }
+}
+
+/// Items from the least up, as their own type orders them.
+#[derive(Clone, Copy, Drop)]
+pub struct OwnOrder;
+
+impl<T: Ord> Order<T> for OwnOrder {
     ghost lesser = { lesser_by T.cmp };
 
     ghost laws = { lesser_by_total T.Ord.total };
@@ -57,10 +72,13 @@ impl<A, B, P: Order<A>, Q: Order<B>> Order<(A, B)> for InTurn<P, Q> {
     ghost laws = { in_turn_total P.Order.lesser Q.Order.lesser P.Order.laws Q.Order.laws };
 
     fn is_less(&self, a: &(A, B), b: &(A, B)) -> bool {
-        match compared(&self.first, &a.0, &b.0) {
-            Ordering::Less => true,
-            Ordering::Greater => false,
-            Ordering::Equal => self.second.is_less(&a.1, &b.1),
+        // By two tests and not by `compared`, whose answer would first be made and then told apart.
+        if self.first.is_less(&a.0, &b.0) {
+            true
+        } else if self.first.is_less(&b.0, &a.0) {
+            false
+        } else {
+            self.second.is_less(&a.1, &b.1)
         }
     }
 }
