@@ -118,3 +118,17 @@ returns c =
     (c.quotients-quotients.ensures ∙ ap (λ v. by_channel (length rs) (quotient_at v rs)) c.unit.ensures ∙ ap (λ k. by_channel k (quotient_at u rs)) c.requires)
     (inv.folds_are ∙ ap (λ k. by_channel k (turns_at u gs rs y)) n)
     (inv.unfolded_are ∙ ap (λ k. by_channel k (put_back u gs rs y)) n)
+
+pub invariant_of-result : goal.invariant_of-result
+invariant_of-result c =
+    let u = unit_of c.args.setting.now in
+    let gs = factors_of c.args.setting.now in
+    let rs = c.args.readings.now in
+    let y = c.agreeing_units-units.result in
+    let inv = c.loop-factor.invariant in
+    let n = at_end u gs rs y _ inv.known c.loop-factor.factor-iterator c.next.new.self c.loop-factor.yielded c.next.result c.loop-factor.yielded_by c.next.ensures.steps c.in-None.is in
+    let quotients = sym (ap length c.quotients-quotients.ensures ∙ length-map-range_with_len _ 0 _ ∙ c.requires) in
+    record {
+      folds_paired = ap length inv.folds_are ∙ length-map-range_with_len (turns_at u gs rs y) 0 _ ∙ n ∙ quotients;
+      unfolded_paired = ap length inv.unfolded_are ∙ length-map-range_with_len (put_back u gs rs y) 0 _ ∙ n ∙ quotients;
+    }
