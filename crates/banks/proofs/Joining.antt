@@ -1,5 +1,6 @@
 -- Where a channel of two joined banks stands, in the words of their lists.
 use Rattle.std.proofs.Common.{◌≡◌, ℕ, zero, suc, ◌+◌, ◌<◌, ◌≤◌, Bool, true, false, leb, List, [], ◌∷◌, ◌++◌, length, Some, None, Ok, Err, Option, Result, sym, refl, ap, ◌∙◌, arith, length-append, le-leb}
+use borrow.Author.Tests.{lt-leb}
 use Rattle.std.proofs.lemmas.Option.{slice_get_past}
 use Rattle.heads.specs.declared.faults.HeadFault.{HeadFault}
 use Rattle.heads.specs.Channels.{Channel}
@@ -12,6 +13,9 @@ use Rattle.banks.proofs.Reading.{rest_length, rest_none}
 
 pub both_few : (cs ds : List Channel) → length cs + length ds ≤ 8 → both cs ds ≡ cs ++ ds
 both_few cs ds h = rw (le-leb (length cs + length ds) 8 h)
+
+pub both_many : (cs ds : List Channel) → 8 < length cs + length ds → both cs ds ≡ []
+both_many cs ds h = rw (lt-leb (length cs + length ds) 8 h)
 
 pub both_count : (cs ds : List Channel) → length (both cs ds) ≡ joined_count (length cs) (length ds)
 both_count cs ds = counted (leb (length cs + length ds) 8) where

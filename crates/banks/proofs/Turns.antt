@@ -3,7 +3,7 @@ use Rattle.std.proofs.Common.{◌≡◌, ℕ, zero, suc, ◌+◌, ◌≤◌, Lis
 use Rattle.heads.specs.Channels.{Channel}
 use Rattle.banks.specs.declared.faults.BankFault.{BankFault}
 use Rattle.banks.specs.Banks.{channel_at, channel_answer, channel_rest, answered_by, read_on, BankReads}
-use Rattle.banks.specs.Rounds.{read_below, all_read}
+use Rattle.banks.specs.Rounds.{TurnByTurn, read_below, all_read}
 
 at_turn : (k : ℕ) (cs : List Channel) → channel_at k (read_below k cs) ≡ channel_at k cs
 at_turn zero cs = refl
@@ -34,3 +34,6 @@ pub turns_length : (n : ℕ) (cs : List Channel) → length (read_below n cs) �
 turns_length zero cs = refl
 turns_length (suc n) [] = refl
 turns_length (suc n) (c ∷ cs) = ap suc (turns_length n cs)
+
+pub turn_by_turn : TurnByTurn
+turn_by_turn k cs r es b = (turn_answers k cs (read_below k cs) r es refl b, turn_leaves k cs (read_below k cs) r es refl b)

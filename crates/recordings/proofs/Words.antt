@@ -1,7 +1,7 @@
 -- Numbers and their bytes, there and back.
 use Rattle.std.proofs.Common.{◌≡◌, ℕ, zero, suc, ◌+◌, ◌-◌, ◌*◌, ◌/◌, ◌%◌, ◌^◌, ◌<◌, ◌≤◌, List, [], ◌∷◌, ◌++◌, length, get_or, drop, sym, refl, ap, ◌∙◌, add_assoc, arith}
 use Rattle.std.specs.List.{flat_map, AllByRecursion}
-use Rattle.std.proofs.lemmas.List.{get_or-append-add, drop_more}
+use Rattle.std.proofs.lemmas.List.{get_or-append-add, get_or-drop, drop_more}
 use Rattle.std.proofs.lemmas.Nat.{from_le_bytes-to_le_bytes_4}
 use Rattle.recordings.specs.Numbers.{bytes_of, number_of, number_from, numbers_in}
 
@@ -74,6 +74,9 @@ number_at (a ∷ b ∷ c ∷ d ∷ bs) zero h = refl
 number_at (a ∷ b ∷ c ∷ d ∷ bs) (suc i) h =
     let e : 4 + 4 * i ≡ 4 * suc i = omega arith in
     number_at bs i (omega arith) ∙ sym (number_after (a ∷ b ∷ c ∷ d ∷ []) bs (4 * i)) ∙ ap (number_from (a ∷ b ∷ c ∷ d ∷ bs)) e
+
+pub number_drop : (n : ℕ) (bs : List ℕ) (p : ℕ) → number_from (drop n bs) p ≡ number_from bs (n + p)
+number_drop n bs p = simp (get_or-drop, add_assoc)
 
 -- the bytes at place p are those of the number there
 pub next_number : (bs : List ℕ) (p : ℕ) → ((i : ℕ) → Byte (get_or bs i 0)) → p + 4 ≤ length bs → bytes_of (number_from bs p) ++ drop (p + 4) bs ≡ drop p bs

@@ -1,4 +1,4 @@
--- Bezout's identity, and products of pairwise coprime factors.
+-- Bezout's identity, Euclid's lemma, and products of pairwise coprime factors.
 use Rattle.std.proofs.Common.{◌≡◌, ℕ, zero, suc, ◌+◌, ◌*◌, ◌/◌, ◌%◌, ◌<◌, ◌≤◌, List, [], ◌∷◌, length, get_or, ℤ, pos, ◌+ℤ◌, ◌-ℤ◌, ◌*ℤ◌, sym, ap, ◌∙◌, subst, mod-lt, arith}
 use Prim.Native.Nat.{◌∣◌}
 use native.Mathlib.Nat.{div-add-mod, dvd-mul_right}
@@ -49,6 +49,14 @@ pub bezout : (a b : ℕ) → Coprime a b → Bezout (pos a) (pos b)
 bezout a b c = let r = gcd_of b a b (omega arith) in
     let e : r.g ≡ 1 = c r.g (subst (λ z. r.g ∣ z) (sym r.left) (dvd-mul_right r.g r.u)) (subst (λ z. r.g ∣ z) (sym r.right) (dvd-mul_right r.g r.v)) in
     (r.x, r.y, sym (ap pos e) ∙ r.comb)
+
+pub swap : (a b : ℤ) → Bezout a b → Bezout b a
+swap a b (x, y, e) = (y, x, omega (arith, lin))
+
+-- Euclid's lemma
+pub euclid : (a b c : ℤ) → Bezout a b → Divides a (b *ℤ c) → Divides a c
+euclid a b c (x, y, h) (k, g) =
+    (x *ℤ c +ℤ y *ℤ k, simp ring (omega (arith, lin, simp ring at (ap (λ z. c *ℤ z) h), simp ring at (ap (λ z. y *ℤ z) g))))
 
 -- two coprime divisors of d
 both_divide : (a b d : ℤ) → Bezout a b → Divides a d → Divides b d → Divides (a *ℤ b) d

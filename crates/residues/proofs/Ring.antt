@@ -1,5 +1,5 @@
 -- The ring laws of ℤ that the library lacks, and two sets: `ring`, for `simp`, multiplies an expression out and sorts it; `lin`, for `omega`, reads sums and orders, with each product an unknown.
-use Rattle.std.proofs.Common.{◌≡◌, ℕ, ◌*◌, ℤ, pos, ◌+ℤ◌, ◌*ℤ◌, neg_ℤ, sym, ap, ◌∙◌, arith}
+use Rattle.std.proofs.Common.{◌≡◌, ℕ, ◌*◌, ℤ, pos, ◌+ℤ◌, ◌*ℤ◌, neg_ℤ, ◌≤ℤ◌, sym, ap, ◌∙◌, mul-le-mul_left, arith}
 use lib.IntN.{*ℤ_comm}
 use borrow.Author.Differences.{ints, up, down, product_is, same_out, same_in, Apart-out, lt_out, le_out, below_in, at_most_in, sum_is_lem, neg_is}
 
@@ -25,6 +25,9 @@ assoc a b c = omega (
 
 pub left_comm : (a b c : ℤ) → a *ℤ (b *ℤ c) ≡ b *ℤ (a *ℤ c)
 left_comm a b c = sym (assoc a b c) ∙ ap (λ x. x *ℤ c) (*ℤ_comm a b) ∙ assoc b a c
+
+pub right_comm : (a b c : ℤ) → a *ℤ b *ℤ c ≡ a *ℤ c *ℤ b
+right_comm a b c = assoc a b c ∙ ap (λ x. a *ℤ x) (*ℤ_comm b c) ∙ sym (assoc a c b)
 
 pub neg_l : (a b : ℤ) → neg_ℤ a *ℤ b ≡ neg_ℤ (a *ℤ b)
 neg_l a b = omega (arith, ints, ap (λ (x : ℕ). x * up b) (neg_is a).0, ap (λ (x : ℕ). x * up b) (neg_is a).1, ap (λ (x : ℕ). x * down b) (neg_is a).0, ap (λ (x : ℕ). x * down b) (neg_is a).1)
@@ -54,3 +57,7 @@ two_r a = omega (arith, ints)
 pub ruleset ring = (one_l, one_r, two_l, two_r, distrib_l, distrib_r, neg_l, neg_r, assoc, *ℤ_comm, left_comm)
 
 pub ruleset lin = (same_out, Apart-out, lt_out, le_out, same_in, below_in, at_most_in, sum_is_lem, neg_is, scale_l, scale_r)
+
+-- an order times a number that is not negative
+pub mul_le : (m : ℕ) (a b : ℤ) → a ≤ℤ b → (pos m *ℤ a) ≤ℤ (pos m *ℤ b)
+mul_le m a b g = omega (arith, lin, mul-le-mul_left m (le_out a b g))
