@@ -66,6 +66,8 @@ fn main(rt: HostRuntime) -> ExitCode {
 #[cfg(test)]
 mod tests {
     use super::*;
+    use std::io;
+    use std::io::Read;
     use std::test::Fail;
 
     // What is reported of a table that is not recorded, and that nothing is written then.
@@ -91,6 +93,40 @@ mod tests {
         assert_eq!(rt;
             out.as_slice(),
             b"\x13\x00\x00\x00\xff\xff\xff\xff\x1e\x00\x00\x00\x02\x00\x00\x00\x28\x00\x00\x00\x00\x00\x00\x00\x08\x00\x00\x00\x01\x00\x00\x00\x02\x00\x00\x00\x01\x00\x00\x00".as_slice()
+        );
+        Ok(())
+    }
+
+    // Gives a bad line, and then an error.
+    #[derive(Drop)]
+    struct Failing {
+        given: bool,
+    }
+
+    impl Read for Failing {
+        fn read(&mut self, buf: &mut [u8]) -> io::Result<usize> {
+            if self.given {
+                return Err(io::Error::from(io::ErrorKind::Other));
+            }
+            self.given = true;
+            let text = b"x\n";
+            let count = text.len().min(buf.len());
+            buf[..count].copy_from_slice(&text[..count]);
+            Ok(count)
+        }
+    }
+
+    #[test]
+    fn a_bad_line_is_told_before_the_next_is_read(rt: HostRuntime) -> Result<(), Fail> {
+        let heap = rt.alloc();
+        let input = BufReader::new(heap, Failing { given: false })?;
+        let mut out: Vec<u8> = Vec::new(heap);
+        let Err(e) = record_table(heap, input, &mut out) else {
+            return Err(Fail::new("recorded"));
+        };
+        assert_eq!(rt;
+            e.to_string(heap)?.as_str(),
+            "record: line 1: no moduli line"
         );
         Ok(())
     }
