@@ -7,6 +7,7 @@ ghost use Rattle.unfolding.specs.Folded.{Folded};
 use crate::digits::agreeing_units;
 use crate::few::Few;
 use crate::kept::Folding;
+use crate::numbers::floor;
 use crate::quotients::quotients;
 use settings::Setting;
 
@@ -18,7 +19,7 @@ fn folds_of_channel(units: u64, quotient: i64, factor: u32) -> i64
     requires factor_positive { 0 < factor }
     ensures { result ≡ int_div_euclid (pos units -ℤ quotient) (pos factor) }
 {
-    (units as i64 - quotient).div_euclid(i64::from(factor))
+    floor(units as i64 - quotient, i64::from(factor))
 }
 
 // A reading with its folds put back.

@@ -10,6 +10,7 @@ mod few;
 mod folding;
 mod kept;
 mod means;
+mod numbers;
 mod quotients;
 mod refusals;
 mod telling;

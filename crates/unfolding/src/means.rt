@@ -3,6 +3,8 @@ ghost use Rattle.std.specs.Prelude.{◌≡◌, ◌*◌, ◌^◌, ◌<◌, ◌≤
 ghost use Rattle.std.specs.Int.{int_div_euclid};
 ghost use Rattle.unfolding.specs.Channels.{Moderate, position_of, total};
 
+use crate::numbers::floor;
+
 /// The mean, halves going up.
 pub(crate) fn rounded(unfolded: &[i64]) -> i64
     requires some { 1 ≤ length unfolded.now }
@@ -16,7 +18,7 @@ pub(crate) fn rounded(unfolded: &[i64]) -> i64
         sum += reading;
     }
     let count = unfolded.len() as i64;
-    (2 * sum + count).div_euclid(2 * count)
+    floor(2 * sum + count, 2 * count)
 }
 
 /// A whole number as a position of the range.

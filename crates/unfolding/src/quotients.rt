@@ -6,6 +6,7 @@ ghost use Rattle.unfolding.specs.Few.{items};
 ghost use Rattle.unfolding.specs.Folds.{quotient_at};
 
 use crate::few::Few;
+use crate::numbers::floor;
 
 // The units from one reading to another, rounded.
 fn quotient(reading: u32, first: u32, unit: u32) -> i64
@@ -14,7 +15,7 @@ fn quotient(reading: u32, first: u32, unit: u32) -> i64
 {
     let twice = 2 * (i64::from(reading) - i64::from(first));
     let unit = i64::from(unit);
-    (twice + unit).div_euclid(2 * unit)
+    floor(twice + unit, 2 * unit)
 }
 
 /// The quotient of each channel; channel 0's is 0.

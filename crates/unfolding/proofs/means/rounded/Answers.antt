@@ -33,6 +33,6 @@ returns c =
     let f₁ : SFits w64 (pos 2 *ℤ total n f) = omega (arith, ints) in
     let f₂ : SFits w64 (pos 2 *ℤ total n f +ℤ pos n) = omega (arith, ints) in
     let f₃ : SFits w64 (pos 2 *ℤ pos n) = omega (arith, ints) in
-    let f₄ : SFits w64 c.div_euclid.result = search rules in
+    let f₄ : SFits w64 c.floor.result = search rules in
     let few : n < 2 ^ 63 = omega arith in
-    simp to_z-of_z (simp (sum_is, to_z-of_z, to_z_pos) at c.div_euclid.ensures)
+    simp to_z-of_z (simp (sum_is, to_z-of_z, to_z_pos) at c.floor.ensures)

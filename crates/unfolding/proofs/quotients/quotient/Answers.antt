@@ -12,5 +12,5 @@ returns c =
     let f₅ : SFits w64 (pos 2 *ℤ (pos c.args.reading -ℤ pos c.args.first)) = omega (arith, ints) in
     let f₆ : SFits w64 (pos 2 *ℤ (pos c.args.reading -ℤ pos c.args.first) +ℤ pos c.args.unit) = omega (arith, ints) in
     let f₇ : SFits w64 (pos 2 *ℤ pos c.args.unit) = omega (arith, ints) in
-    let f₈ : SFits w64 c.div_euclid.result = search rules in
-    simp to_z-of_z (simp (to_z-of_z, c.from.ensures, c.from-2.ensures, c.from-unit.ensures) at c.div_euclid.ensures)
+    let f₈ : SFits w64 c.floor.result = search rules in
+    simp to_z-of_z (simp (to_z-of_z, c.from.ensures, c.from-2.ensures, c.from-unit.ensures) at c.floor.ensures)
