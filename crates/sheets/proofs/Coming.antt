@@ -1,11 +1,9 @@
 -- What lines come to, one line after another.
-use Rattle.std.proofs.Common.{◌≡◌, ℕ, ◌+◌, List, [], ◌∷◌, length, Err, Ok, MatchResult, Result, inl, inr, refl, sym, arith}
-use Rattle.tables.specs.declared.parts.Part.TheVariants.{Row}
-use Rattle.tables.specs.Tables.{allowed}
+use Rattle.std.proofs.Common.{◌≡◌, ℕ, ◌+◌, List, [], ◌∷◌, length, Err, Ok, MatchResult, Result, inl, inr, refl, arith}
 use Rattle.sheets.specs.declared.errors.BadSheet.{BadSheet}
 use Rattle.sheets.specs.declared.lines.Sheet.{Sheet}
 use Rattle.sheets.specs.declared.whole.BadLine.{BadLine}
-use Rattle.sheets.specs.Lines.{Collects, end_of}
+use Rattle.sheets.specs.Lines.{Collects}
 use Rattle.sheets.specs.Whole.{ComesTo, lines_of}
 
 -- the same answer, whose error has the number n
@@ -16,17 +14,9 @@ Numbered {T = T} n m q = MatchResult m (λ x. q ≡ Ok x) (λ e. q ≡ Err (reco
 abbrev pub Steps : (s : Sheet) (n : ℕ) (lines after : List (List ℕ)) → Result Sheet BadLine → Type 0
 Steps s n lines after q = MatchResult q (λ t. (r : Result Sheet BadLine) → ComesTo t (n + 1) after r → ComesTo s n lines r) (λ e. ComesTo s n lines (Err e))
 
--- what the end is after these lines
-abbrev pub Ends : (s : Sheet) (n : ℕ) (lines : List (List ℕ)) → Result (Unit {0}) BadLine → Type 0
-Ends s n lines q = MatchResult q (λ u. ComesTo s n lines (Ok s)) (λ e. ComesTo s n lines (Err e))
-
 pub step : (s : Sheet) (n : ℕ) (line : List ℕ) (lines after : List (List ℕ)) → lines ≡ line ∷ after → (m : Result Sheet BadSheet) → Collects s line m → (q : Result Sheet BadLine) → Numbered n m q → Steps s n lines after q
 step s n line lines after is (Ok t) good q said = rw (said, is) (λ r more. inl (t, good, more))
 step s n line lines after is (Err bad) wrong q said = rw (said, is) (inr (bad, wrong, refl))
-
-pub ended : (s : Sheet) (n : ℕ) (lines : List (List ℕ)) → lines ≡ [] → (m : Result (Unit {0}) BadSheet) → m ≡ end_of (allowed s.heading Row) → (q : Result (Unit {0}) BadLine) → Numbered n m q → Ends s n lines q
-ended s n lines is (Ok tt) at q said = rw (said, is) (refl, sym at)
-ended s n lines is (Err bad) at q said = rw (said, is) (refl, sym at)
 
 -- no bytes, no lines
 pub no_lines : (bs : List ℕ) → length bs ≡ 0 → lines_of bs ≡ []

@@ -7,7 +7,7 @@ ghost use Rattle.sheets.specs.declared.whole.NotRecorded.TheVariants.{Line, Unwr
 
 use crate::lines::Sheet;
 use crate::making::RecordError;
-use crate::whole::{BadLine, NotRecorded};
+use crate::whole::{BadLine, NotRecorded, ended};
 use std::alloc::Global;
 use std::io;
 use std::io::BufRead;
@@ -57,8 +57,7 @@ fn collected_from<B: BufRead + Drop>(heap: Global, input: B) -> Result<Sheet, Un
             .map_err(|bad| BadLine { line, bad })?;
         line = line.saturating_add(1);
     }
-    sheet.end().map_err(|bad| BadLine { line, bad })?;
-    Ok(sheet)
+    Ok(ended(sheet, line)?)
 }
 
 /// The recording of a table that a reader gives, line after line.

@@ -1,6 +1,6 @@
 // A whole text as its recording.
-ghost use Rattle.std.specs.Prelude.{◌≡◌, ◌∷◌, ◌<◌, Ok, Err, length, vec_items, MatchResult};
-ghost use Rattle.sheets.specs.Whole.{Reads, Recorded, lines_of};
+ghost use Rattle.std.specs.Prelude.{◌≡◌, [], ◌∷◌, ◌<◌, Ok, Err, length, vec_items, MatchResult};
+ghost use Rattle.sheets.specs.Whole.{ComesTo, Reads, Recorded, lines_of};
 ghost use Rattle.sheets.specs.declared.whole.NotRecorded.TheVariants.{Line, Unwritten};
 
 use crate::errors::BadSheet;
@@ -48,6 +48,14 @@ fn first_line(text: &[u8]) -> (&[u8], &[u8])
     (&text[..end], text.get(end + 1..).unwrap_or(&[]))
 }
 
+/// A sheet whose text ends at this line, or what is wrong with that end.
+pub(crate) fn ended(sheet: Sheet, line: usize) -> Result<Sheet, BadLine>
+    ensures { ComesTo sheet line [] result }
+{
+    sheet.end().map_err(|bad| BadLine { line, bad })?;
+    Ok(sheet)
+}
+
 /// The sheet of all lines of a text.
 fn collected(heap: Global, text: &[u8]) -> Result<Sheet, BadLine>
     ensures { Reads text.now result }
@@ -62,8 +70,7 @@ fn collected(heap: Global, text: &[u8]) -> Result<Sheet, BadLine>
         rest = after;
         line += 1;
     }
-    sheet.end().map_err(|bad| BadLine { line, bad })?;
-    Ok(sheet)
+    ended(sheet, line)
 }
 
 /// The recording of a table that is given as text.

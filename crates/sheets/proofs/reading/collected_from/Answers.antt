@@ -1,10 +1,10 @@
-use Rattle.std.proofs.Common.{◌≡◌, ◌+◌, ◌∷◌, Err, vec_items, rules, sym, subst, ap, ◌∙◌, arith}
+use Rattle.std.proofs.Common.{◌≡◌, ◌+◌, [], ◌∷◌, Err, vec_items, rules, sym, subst, ap, ◌∙◌, arith}
 use Rattle.std.specs.Io.BufRead.{drop_through}
 use Rattle.std.specs.Io.Iter.{split_byte, split_known_bytes}
 use Rattle.sheets.specs.Whole.{ComesTo, lines_of}
 use Rattle.sheets.specs.declared.reading.Unrecorded.TheVariants.{Unmade}
 use Rattle.sheets.specs.declared.whole.NotRecorded.TheVariants.{Line}
-use Rattle.sheets.proofs.Coming.{Ends, Numbered, Steps, ended, step}
+use Rattle.sheets.proofs.Coming.{Numbered, Steps, step}
 use Rattle.sheets.proofs.Pieces.{fed, fed_all, fewer, if_known, some_pieces}
 use Rattle.sheets.proofs.reading.collected_from.Goals as goal
 
@@ -53,23 +53,19 @@ returns-in_err-sheet g c =
     let at = step c.loop-text.sheet c.loop-text.line _ _ _ cut c.line.result c.line.ensures c.map_err.result said in
     w.2 _ (subst (Steps c.loop-text.sheet c.loop-text.line _ _) c.in_err-sheet.was at)))
 
-pub returns-in_err-map_err : goal.returns-in_err-map_err
-returns-in_err-map_err g c =
+pub returns-in_err-ended : goal.returns-in_err-ended
+returns-in_err-ended g c =
     let inv = c.loop-text.invariant in
-    let said : Numbered c.loop-text.line c.end.result c.map_err-2.result = search rules in
-    let told : c.from_residual-in_err-map_err.result ≡ Err (Unmade (Line c.in_err-map_err.field-0.0)) = search rules in
+    let told : c.from_residual-in_err-ended.result ≡ Err (Unmade (Line c.in_err-ended.field-0.0)) = search rules in
     rw told (if_known (g.B.Read.remaining c.args.input) (λ text known.
     let w = inv.whole text known in
     let none = fed_all vec_items _ _ _ _ c.next.ensures.steps.2 c.in-None.is w.0 w.1 in
-    let at = ended c.loop-text.sheet c.loop-text.line _ none c.end.result c.end.ensures c.map_err-2.result said in
-    w.2 _ (subst (Ends c.loop-text.sheet c.loop-text.line _) c.in_err-map_err.was at)))
+    w.2 _ (rw none (subst (ComesTo c.loop-text.sheet c.loop-text.line []) c.in_err-ended.was c.ended.ensures))))
 
 pub returns : goal.returns
 returns g c =
     let inv = c.loop-text.invariant in
-    let said : Numbered c.loop-text.line c.end.result c.map_err-2.result = search rules in
     if_known (g.B.Read.remaining c.args.input) (λ text known.
     let w = inv.whole text known in
     let none = fed_all vec_items _ _ _ _ c.next.ensures.steps.2 c.in-None.is w.0 w.1 in
-    let at = ended c.loop-text.sheet c.loop-text.line _ none c.end.result c.end.ensures c.map_err-2.result said in
-    w.2 _ (subst (Ends c.loop-text.sheet c.loop-text.line _) c.in_ok-map_err.was at))
+    w.2 _ (rw none (subst (ComesTo c.loop-text.sheet c.loop-text.line []) c.in_ok-ended.was c.ended.ensures)))

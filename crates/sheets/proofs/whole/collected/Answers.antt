@@ -1,5 +1,5 @@
 use Rattle.std.proofs.Common.{◌≡◌, Err, rules, subst, arith}
-use Rattle.sheets.proofs.Coming.{Ends, Numbered, Steps, ended, no_lines, step}
+use Rattle.sheets.proofs.Coming.{Numbered, Steps, no_lines, step}
 use Rattle.sheets.proofs.whole.collected.Goals as goal
 
 pub returns-in_err-sheet : goal.returns-in_err-sheet
@@ -16,15 +16,5 @@ loop-rest-preserved c =
     let on = subst (Steps c.loop-rest.sheet c.loop-rest.line _ _) c.in_ok-sheet.was at in
     record { whole = λ r more. c.loop-rest.invariant.whole r (on r more); count = omega (arith, c.loop-rest.invariant.count, c.first_line.ensures.shorter) }
 
-pub returns-in_err-map_err : goal.returns-in_err-map_err
-returns-in_err-map_err c =
-    let said : Numbered c.loop-rest.line c.end.result c.map_err-2.result = search rules in
-    let at = ended c.loop-rest.sheet c.loop-rest.line _ (no_lines c.loop-rest.rest.now (search rules)) c.end.result c.end.ensures c.map_err-2.result said in
-    let told : c.from_residual-in_err-map_err.result ≡ Err c.in_err-map_err.field-0.0 = search rules in
-    rw told (c.loop-rest.invariant.whole _ (subst (Ends c.loop-rest.sheet c.loop-rest.line _) c.in_err-map_err.was at))
-
 pub returns : goal.returns
-returns c =
-    let said : Numbered c.loop-rest.line c.end.result c.map_err-2.result = search rules in
-    let at = ended c.loop-rest.sheet c.loop-rest.line _ (no_lines c.loop-rest.rest.now (search rules)) c.end.result c.end.ensures c.map_err-2.result said in
-    c.loop-rest.invariant.whole _ (subst (Ends c.loop-rest.sheet c.loop-rest.line _) c.in_ok-map_err.was at)
+returns c = c.loop-rest.invariant.whole _ (rw (no_lines c.loop-rest.rest.now (search rules)) c.ended.ensures)
